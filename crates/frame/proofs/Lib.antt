@@ -1,0 +1,5 @@
+pub mod Accepted
+pub mod Rectangle
+pub mod Stays
+pub mod Counting
+pub mod Placed

@@ -1,0 +1,4 @@
+pub mod Stages
+pub mod Placing
+pub mod Counts
+pub mod Laws

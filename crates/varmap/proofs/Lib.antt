@@ -1,0 +1,2 @@
+pub mod AllCells
+pub mod Passed
