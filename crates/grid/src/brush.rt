@@ -62,6 +62,25 @@ pub fn write<T: Copy>(list: &mut [T], shape: Shape, x: usize, y: usize, value: T
     list[shape.offset(x, y)] = value;
 }
 
+/// What the brush makes of the element (x, y), which is (i, j) in its area.
+fn stroke_at<T: Copy, B: Brush<T>>(
+    list: &[T],
+    shape: Shape,
+    x: usize,
+    y: usize,
+    brush: &B,
+    i: usize,
+    j: usize,
+) -> T
+    requires lawful { ⌜ Lawful shape (length (now list)) ⌝ }
+    requires inside { ⌜ Inside shape x y ⌝ }
+    requires can { ⌜ ready (now brush) i j ⌝ }
+    ensures { λ r. ⌜ ((d : T) → r ≡ made (now (brush .entry)) i j (getD (now (list .entry)) (index shape x y) d)) ⌝ }
+{
+    let old = read(list, shape, x, y);
+    brush.stroke(i, j, old)
+}
+
 /// Each element of the area becomes what the brush makes of it.
 pub fn paint<T: Copy, B: Brush<T>>(list: &mut [T], shape: Shape, area: Area, brush: &B)
     requires lawful { ⌜ Lawful shape (length (now list)) ⌝ }
@@ -72,8 +91,9 @@ pub fn paint<T: Copy, B: Brush<T>>(list: &mut [T], shape: Shape, area: Area, bru
 {
     for j in 0..area.height {
         for i in 0..area.width {
-            let old = read(list, shape, area.x + i, area.y + j);
-            write(list, shape, area.x + i, area.y + j, brush.stroke(i, j, old));
+            let (x, y) = (area.x + i, area.y + j);
+            let value = stroke_at(list, shape, x, y, brush, i, j);
+            write(list, shape, x, y, value);
         }
     }
 }

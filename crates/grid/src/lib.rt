@@ -87,8 +87,17 @@ impl Shape {
         requires fits { ⌜ index self x y < 2 ^ 64 ⌝ }
         ensures { λ r. ⌜ r ≡ index self x y ⌝ }
     {
-        y * self.stride + x
+        row_order(self.stride, x, y)
     }
+}
+
+/// The place of (x, y) where rows follow each other, `stride` places apart.
+fn row_order(stride: usize, x: usize, y: usize) -> usize
+    requires { ⌜ y * stride + x < 2 ^ 64 ⌝ }
+    ensures { λ r. ⌜ r ≡ y * stride + x ⌝ }
+{
+    let row = y * stride;
+    row + x
 }
 
 /// A grid over a lent list.
