@@ -1,170 +1,227 @@
-//! The memory that is lent, and the calls that are made on it.
+//! What each line does, and what it prints.
 
-use crate::draw::map_row;
-use crate::script::Command;
+use crate::draw::answer_line;
+use crate::draw::map_rows;
+use crate::draw::mistake_line;
+use crate::draw::sample_rows;
+use crate::memory::Memory;
+use crate::memory::wants_frame;
+use crate::script::Mistake;
+use crate::script::MistakeFromAlloc;
+use crate::script::Words;
+use crate::sheet::Sheet;
 use frame::Frame;
 use grid::Grid;
 use grid::Shape;
-use grid::View;
 use refusal::Refusal;
-use refusal::RefusalDisplay;
+use std::alloc::AllocError;
 use std::alloc::Global;
-use std::error::AnyError;
 use varmap::Cell;
 
-/// The longest side in cells that memory is made for; more than `open` accepts, so that its refusal can be seen.
+/// The longest side in cells that a map is made for; more than `open` accepts, so that its refusal can be seen.
 const LONGEST: usize = 256;
 
-/// How many lines there were of what.
-#[derive(Clone, Copy)]
-pub struct Tally {
-    pub commands: u64,
-    pub accepted: u64,
-    pub refused: u64,
-    pub bad: u64,
-}
-
-/// An open frame with its map.
+/// What a line printed, and what it was.
 #[derive(Drop)]
-struct Open {
-    frame: Frame,
-    map: Vec<Cell>,
-    shape: Shape,
+enum Done {
+    Nothing,
+    Printed(String),
+    Accepted(String),
+    Refused(String),
 }
 
 #[derive(Drop)]
 pub struct Player {
     heap: Global,
-    open: Option<Open>,
-    tally: Tally,
+    memory: Option<Memory>,
+    lines: u64,
+    commands: u64,
+    accepted: u64,
+    refused: u64,
+    bad: u64,
 }
 
 impl Player {
     pub fn new(heap: Global) -> Player {
         Player {
             heap,
-            open: None,
-            tally: Tally {
-                commands: 0,
-                accepted: 0,
-                refused: 0,
-                bad: 0,
-            },
+            memory: None,
+            lines: 0,
+            commands: 0,
+            accepted: 0,
+            refused: 0,
+            bad: 0,
         }
     }
 
-    pub fn tally(&self) -> Tally {
-        self.tally
+    /// The line that counts what the script came to.
+    pub fn tally(&self) -> Result<String, AllocError> {
+        let commands = self.commands;
+        let accepted = self.accepted;
+        let refused = self.refused;
+        let bad = self.bad;
+        format!(
+            self.heap,
+            "commands {commands} accepted {accepted} refused {refused} bad lines {bad}\n"
+        )
     }
 
-    /// A line that asks for nothing that can be done.
-    pub fn count_bad(&mut self) {
-        self.tally.bad = self.tally.bad.saturating_add(1);
-    }
-
-    /// Does what a line asks for.
-    pub fn play(&mut self, rt: &LibcRuntime, line: u64, command: Command) -> Result<(), AnyError> {
-        match command {
-            Command::Nothing => Ok(()),
-            Command::Open { w8, h8 } => self.open(rt, line, w8, h8),
-            Command::Place { kind, x, y, hf_mul } => self.place(rt, line, kind, x, y, hf_mul),
-            Command::Map => self.show_map(rt, line),
+    /// Does what a line asks for, and gives what it prints.
+    pub fn play_line(&mut self, line: &str) -> Result<String, AllocError> {
+        self.lines = self.lines.saturating_add(1);
+        match self.command(&mut Words::of(line)) {
+            Ok(done) => Ok(self.count(done)),
+            Err(mistake) => {
+                self.bad = self.bad.saturating_add(1);
+                mistake_line(self.heap, self.lines, mistake)
+            }
         }
     }
 
-    fn open(&mut self, rt: &LibcRuntime, line: u64, w8: usize, h8: usize) -> Result<(), AnyError> {
+    /// Counts a line that was carried out, and gives its text.
+    fn count(&mut self, done: Done) -> String {
+        match done {
+            Done::Nothing => return String::new(self.heap),
+            Done::Printed(text) => self.carried_out(0, 0, text),
+            Done::Accepted(text) => self.carried_out(1, 0, text),
+            Done::Refused(text) => self.carried_out(0, 1, text),
+        }
+    }
+
+    fn carried_out(&mut self, accepted: u64, refused: u64, text: String) -> String {
+        self.commands = self.commands.saturating_add(1);
+        self.accepted = self.accepted.saturating_add(accepted);
+        self.refused = self.refused.saturating_add(refused);
+        text
+    }
+
+    fn command<'a>(&mut self, words: &mut Words<'a>) -> Result<Done, Mistake<'a>> {
+        let Some(name) = words.next() else {
+            return Ok(Done::Nothing);
+        };
+        if name == "open" {
+            return self.open(words);
+        }
+        let heap = self.heap;
+        let Some(memory) = &mut self.memory else {
+            return Err(no_frame(name));
+        };
+        on_frame(heap, memory, name, words)
+    }
+
+    /// `open W H`: opens a frame over a new map. An open frame stays where it is refused.
+    fn open<'a>(&mut self, words: &mut Words<'a>) -> Result<Done, Mistake<'a>> {
+        let w8: usize = words.number("width in cells")?;
+        let h8: usize = words.number("height in cells")?;
+        words.end()?;
         if w8 > LONGEST || h8 > LONGEST {
-            return self.bad(rt, line, "no memory is made for so many cells");
+            return Err(Mistake::Why("no memory is made for so many cells"));
         }
-        let shape = Shape {
-            width: w8,
-            height: h8,
-            stride: w8,
-        };
-        let mut map = vec![in self.heap; Cell::EMPTY; w8 * h8]?;
-        match open_frame(w8, h8, map.as_mut_slice(), shape) {
+        let mut map = Sheet::new(self.heap, w8, h8, Cell::EMPTY)?;
+        let shape = map.shape;
+        match open_on(w8, h8, map.list.as_mut_slice(), shape) {
             Ok(frame) => {
-                self.open = Some(Open { frame, map, shape });
-                self.told(rt, Ok(0))
+                self.memory = Some(Memory::new(self.heap, frame, map)?);
+                told(self.heap, Ok(0))
             }
-            Err(refusal) => self.told(rt, Err(refusal)),
+            Err(refusal) => told(self.heap, Err(refusal)),
         }
-    }
-
-    fn place(
-        &mut self,
-        rt: &LibcRuntime,
-        line: u64,
-        kind: u32,
-        x: usize,
-        y: usize,
-        hf_mul: u32,
-    ) -> Result<(), AnyError> {
-        let Some(open) = &mut self.open else {
-            return self.bad(rt, line, "no frame is open");
-        };
-        let answer = open.place(kind, x, y, hf_mul);
-        self.told(rt, answer)
-    }
-
-    fn show_map(&mut self, rt: &LibcRuntime, line: u64) -> Result<(), AnyError> {
-        let Some(open) = &self.open else {
-            return self.bad(rt, line, "no frame is open");
-        };
-        open.show_map(rt, self.heap)?;
-        self.done()
-    }
-
-    /// Prints what a call answered, and counts it.
-    fn told(&mut self, rt: &LibcRuntime, answer: Result<u32, Refusal>) -> Result<(), AnyError> {
-        match answer {
-            Ok(number) => {
-                self.tally.accepted = self.tally.accepted.saturating_add(1);
-                println!(rt, "ok {number}")?;
-            }
-            Err(refusal) => {
-                self.tally.refused = self.tally.refused.saturating_add(1);
-                println!(rt, "refused {refusal}")?;
-            }
-        }
-        self.done()
-    }
-
-    fn done(&mut self) -> Result<(), AnyError> {
-        self.tally.commands = self.tally.commands.saturating_add(1);
-        Ok(())
-    }
-
-    fn bad(&mut self, rt: &LibcRuntime, line: u64, why: &str) -> Result<(), AnyError> {
-        self.count_bad();
-        println!(rt, "line {line}: {why}")?;
-        Ok(())
     }
 }
 
-impl Open {
-    fn place(&mut self, kind: u32, x: usize, y: usize, hf_mul: u32) -> Result<u32, Refusal> {
-        let shape = self.shape;
-        let mut map = Grid {
-            list: self.map.as_mut_slice(),
-            shape,
-        };
-        self.frame.place(&mut map, kind, x, y, hf_mul)
-    }
-
-    fn show_map(&self, rt: &LibcRuntime, heap: Global) -> Result<(), AnyError> {
-        let map = View {
-            list: self.map.as_slice(),
-            shape: self.shape,
-        };
-        for y in 0..self.shape.height {
-            rt.println(map_row(heap, map, y)?)?;
-        }
-        Ok(())
+/// A command on an open frame.
+fn on_frame<'a>(
+    heap: Global,
+    memory: &mut Memory,
+    name: &'a str,
+    words: &mut Words<'a>,
+) -> Result<Done, Mistake<'a>> {
+    match name {
+        "map" => print_map(heap, memory, words),
+        "samples" => print_samples(heap, memory, words, false),
+        "bits" => print_samples(heap, memory, words, true),
+        "all" => set_all(heap, memory, words),
+        "at" => set_at(heap, memory, words),
+        _ => call(heap, memory, name, words),
     }
 }
 
-fn open_frame(w8: usize, h8: usize, list: &mut [Cell], shape: Shape) -> Result<Frame, Refusal> {
-    let mut map = Grid { list, shape };
-    Frame::open(w8, h8, &mut map)
+fn call<'a>(
+    heap: Global,
+    memory: &mut Memory,
+    name: &'a str,
+    words: &mut Words<'a>,
+) -> Result<Done, Mistake<'a>> {
+    let answer = memory.call(name, words)?;
+    told(heap, answer)
+}
+
+fn set_all<'a>(
+    heap: Global,
+    memory: &mut Memory,
+    words: &mut Words<'a>,
+) -> Result<Done, Mistake<'a>> {
+    memory.set_all(words)?;
+    Ok(Done::Printed(String::new(heap)))
+}
+
+fn set_at<'a>(
+    heap: Global,
+    memory: &mut Memory,
+    words: &mut Words<'a>,
+) -> Result<Done, Mistake<'a>> {
+    memory.set_at(words)?;
+    Ok(Done::Printed(String::new(heap)))
+}
+
+/// `map`
+fn print_map<'a>(
+    heap: Global,
+    memory: &Memory,
+    words: &mut Words<'a>,
+) -> Result<Done, Mistake<'a>> {
+    words.end()?;
+    let text = map_rows(heap, memory.map.view())?;
+    Ok(Done::Printed(text))
+}
+
+/// `samples NAME` and `bits NAME`
+fn print_samples<'a>(
+    heap: Global,
+    memory: &Memory,
+    words: &mut Words<'a>,
+    bits: bool,
+) -> Result<Done, Mistake<'a>> {
+    let name = words.word("name")?;
+    words.end()?;
+    match memory.samples(name) {
+        Some(samples) => {
+            let text = sample_rows(heap, samples, bits)?;
+            Ok(Done::Printed(text))
+        }
+        None => Err(Mistake::NoNumber(name, "name")),
+    }
+}
+
+/// What a call answered.
+fn told<'a>(heap: Global, answer: Result<u32, Refusal>) -> Result<Done, Mistake<'a>> {
+    let text = answer_line(heap, answer)?;
+    match answer {
+        Ok(_) => Ok(Done::Accepted(text)),
+        Err(_) => Ok(Done::Refused(text)),
+    }
+}
+
+fn open_on(w8: usize, h8: usize, list: &mut [Cell], shape: Shape) -> Result<Frame, Refusal> {
+    let map = &mut Grid { list, shape };
+    Frame::open(w8, h8, map)
+}
+
+/// What is said of a command where no frame is open.
+fn no_frame(name: &str) -> Mistake<'_> {
+    if wants_frame(name) || name == "map" || name == "samples" || name == "bits" {
+        Mistake::Why("no frame is open")
+    } else {
+        Mistake::Unknown(name)
+    }
 }

@@ -1,0 +1,4 @@
+pub mod Grids
+pub mod Dequantising
+pub mod Correlating
+pub mod Smoothing

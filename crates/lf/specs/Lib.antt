@@ -1,0 +1,3 @@
+pub mod Dequantise
+pub mod Correlate
+pub mod Smooth
