@@ -1,0 +1,4 @@
+pub mod Paintings
+pub mod Passes
+pub mod Planes
+pub mod Stores

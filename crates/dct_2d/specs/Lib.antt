@@ -1,0 +1,5 @@
+pub mod Drawn
+pub mod Flat
+pub mod Lines
+pub mod Plane
+pub mod Replaced

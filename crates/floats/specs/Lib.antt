@@ -1,0 +1,2 @@
+pub mod Arith
+pub mod Same
