@@ -1,0 +1,4 @@
+pub mod Framing
+pub mod Blocks
+pub mod Parts
+pub mod Steps

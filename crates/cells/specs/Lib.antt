@@ -1,0 +1,4 @@
+pub mod Framed
+pub mod Cells
+pub mod Passes
+pub mod Stored
