@@ -1,0 +1,4 @@
+pub mod Numbering
+pub mod Holders
+pub mod Counting
+pub mod ByBlocks

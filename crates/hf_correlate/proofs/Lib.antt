@@ -1,0 +1,4 @@
+pub mod LeastTiles
+pub mod Tilewise
+pub mod Accepted
+pub mod Footprint
