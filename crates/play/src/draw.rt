@@ -8,6 +8,7 @@ use refusal::RefusalDisplay;
 use std::alloc::AllocError;
 use std::alloc::Global;
 use std::num::f32_to_bits_with_nan;
+use std::num::saturating_f32_to_u8;
 use varmap::Cell;
 use varmap::Record;
 
@@ -73,4 +74,36 @@ fn push_sample(text: &mut String, heap: Global, sample: f32, bits: bool) -> Resu
     } else {
         text.push_str(format!(heap, "{sample}")?.as_str())
     }
+}
+
+/// A picture of the samples as a PGM file: `black` and what is below becomes 0, `white` and what is above 255.
+pub fn picture(
+    heap: Global,
+    samples: View<'_, f32>,
+    black: f32,
+    white: f32,
+) -> Result<String, AllocError> {
+    let width = samples.shape.width;
+    let height = samples.shape.height;
+    let mut text = format!(heap, "P2\n{width} {height}\n255\n")?;
+    if !samples.shape.is_lawful(samples.list.len()) {
+        return Ok(text);
+    }
+    for y in 0..height {
+        for x in 0..width {
+            push_grey(&mut text, heap, samples.get(x, y), black, white)?;
+        }
+    }
+    Ok(text)
+}
+
+fn push_grey(
+    text: &mut String,
+    heap: Global,
+    sample: f32,
+    black: f32,
+    white: f32,
+) -> Result<(), AllocError> {
+    let grey = saturating_f32_to_u8((sample - black) / (white - black) * 255.0 + 0.5);
+    text.push_str(format!(heap, "{grey}\n")?.as_str())
 }

@@ -6,8 +6,10 @@ mod player;
 mod script;
 mod sheet;
 
+use player::Picture;
 use player::Player;
 use std::error::AnyError;
+use std::fs;
 use std::io::BufRead;
 use std::io::BufReader;
 
@@ -22,7 +24,18 @@ fn run(rt: &LibcRuntime) -> Result<(), AnyError> {
     for line in BufReader::new(rt.stdin()).lines(heap) {
         let line = line?;
         rt.print(player.play_line(line.as_str())?)?;
+        if let Some(picture) = player.take_picture() {
+            write_picture(rt, picture)?;
+        }
     }
     rt.print(player.tally()?)?;
+    Ok(())
+}
+
+/// Writes a picture, or says that it could not be written.
+fn write_picture(rt: &LibcRuntime, picture: Picture) -> Result<(), AnyError> {
+    if fs::write(rt, picture.file.as_str(), picture.text.as_str()).is_err() {
+        rt.println("the picture could not be written")?;
+    }
     Ok(())
 }

@@ -3,6 +3,7 @@
 use crate::draw::answer_line;
 use crate::draw::map_rows;
 use crate::draw::mistake_line;
+use crate::draw::picture;
 use crate::draw::sample_rows;
 use crate::memory::Memory;
 use crate::memory::wants_frame;
@@ -25,15 +26,24 @@ const LONGEST: usize = 256;
 #[derive(Drop)]
 enum Done {
     Nothing,
+    Drawn(Picture),
     Printed(String),
     Accepted(String),
     Refused(String),
+}
+
+/// A picture to be written to a file.
+#[derive(Drop)]
+pub struct Picture {
+    pub file: String,
+    pub text: String,
 }
 
 #[derive(Drop)]
 pub struct Player {
     heap: Global,
     memory: Option<Memory>,
+    picture: Option<Picture>,
     lines: u64,
     commands: u64,
     accepted: u64,
@@ -46,6 +56,7 @@ impl Player {
         Player {
             heap,
             memory: None,
+            picture: None,
             lines: 0,
             commands: 0,
             accepted: 0,
@@ -66,6 +77,11 @@ impl Player {
         )
     }
 
+    /// The picture that the last line drew, if it drew one.
+    pub fn take_picture(&mut self) -> Option<Picture> {
+        std::mem::replace(&mut self.picture, None)
+    }
+
     /// Does what a line asks for, and gives what it prints.
     pub fn play_line(&mut self, line: &str) -> Result<String, AllocError> {
         self.lines = self.lines.saturating_add(1);
@@ -81,7 +97,11 @@ impl Player {
     /// Counts a line that was carried out, and gives its text.
     fn count(&mut self, done: Done) -> String {
         match done {
-            Done::Nothing => return String::new(self.heap),
+            Done::Nothing => String::new(self.heap),
+            Done::Drawn(picture) => {
+                self.picture = Some(picture);
+                self.carried_out(0, 0, String::new(self.heap))
+            }
             Done::Printed(text) => self.carried_out(0, 0, text),
             Done::Accepted(text) => self.carried_out(1, 0, text),
             Done::Refused(text) => self.carried_out(0, 1, text),
@@ -140,6 +160,7 @@ fn on_frame<'a>(
         "map" => print_map(heap, memory, words),
         "samples" => print_samples(heap, memory, words, false),
         "bits" => print_samples(heap, memory, words, true),
+        "picture" => draw(heap, memory, words),
         "all" => set_all(heap, memory, words),
         "at" => set_at(heap, memory, words),
         _ => call(heap, memory, name, words),
@@ -203,6 +224,21 @@ fn print_samples<'a>(
     }
 }
 
+/// `picture NAME FILE BLACK WHITE`
+fn draw<'a>(heap: Global, memory: &Memory, words: &mut Words<'a>) -> Result<Done, Mistake<'a>> {
+    let name = words.word("name")?;
+    let file = words.word("file")?;
+    let mut ends = [0.0f32; 2];
+    words.floats(&mut ends)?;
+    words.end()?;
+    let Some(samples) = memory.samples(name) else {
+        return Err(Mistake::NoNumber(name, "name"));
+    };
+    let file = String::from_str(heap, file)?;
+    let text = picture(heap, samples, ends[0], ends[1])?;
+    Ok(Done::Drawn(Picture { file, text }))
+}
+
 /// What a call answered.
 fn told<'a>(heap: Global, answer: Result<u32, Refusal>) -> Result<Done, Mistake<'a>> {
     let text = answer_line(heap, answer)?;
@@ -219,7 +255,7 @@ fn open_on(w8: usize, h8: usize, list: &mut [Cell], shape: Shape) -> Result<Fram
 
 /// What is said of a command where no frame is open.
 fn no_frame(name: &str) -> Mistake<'_> {
-    if wants_frame(name) || name == "map" || name == "samples" || name == "bits" {
+    if wants_frame(name) {
         Mistake::Why("no frame is open")
     } else {
         Mistake::Unknown(name)

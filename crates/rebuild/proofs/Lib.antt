@@ -1,0 +1,4 @@
+pub mod Corner
+pub mod Sides
+pub mod Accepted
+pub mod Facts

@@ -1,0 +1,2 @@
+pub mod Partition
+pub mod LfFootprint
