@@ -1,2 +1,3 @@
 pub mod Partition
 pub mod LfFootprint
+pub mod SameBut
