@@ -1,3 +1,4 @@
 pub mod Partition
 pub mod LfFootprint
 pub mod SameBut
+pub mod RebuildBut

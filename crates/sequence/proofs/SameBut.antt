@@ -34,7 +34,7 @@ pub record Same-but (E : ℕ → ℕ → Type 0) (p q : Plane Float) : Type 0 wh
   pub inside : (x y : ℕ) → Inside (p .shape) x y → (sample p x y ≡ sample q x y) ⊎ (E x y)
 
 -- painting keeps what lies beyond the width
-painted-alike-beyond : (f g : ℕ → ℕ → Float → Float) (p q : Plane Float) → Alike-beyond p q
+pub painted-alike-beyond : (f g : ℕ → ℕ → Float → Float) (p q : Plane Float) → Alike-beyond p q
     → Alike-beyond (holding p (painted (p .shape) f (p .list))) (holding q (painted (q .shape) g (q .list)))
 painted-alike-beyond f g p q a =
     record {
@@ -51,14 +51,14 @@ painted-alike-beyond f g p q a =
     }
 
 -- what is said of the places below w and h is said of those inside
-within : (w h : ℕ) (p : Plane Float) → fitting w h p ≡ true → (x y : ℕ) → Inside (p .shape) x y → (x < w) × (y < h)
+pub within : (w h : ℕ) (p : Plane Float) → fitting w h p ≡ true → (x y : ℕ) → Inside (p .shape) x y → (x < w) × (y < h)
 within w h p f x y k =
     let z = sized-true w h (p .shape) (length (p .list)) f in
     let a = k .across in
     let b = k .down in
     (omega (arith, z .width), omega (arith, z .height))
 
-inside-of : (w h : ℕ) (p : Plane Float) → fitting w h p ≡ true → (x y : ℕ) → x < w → y < h → Inside (p .shape) x y
+pub inside-of : (w h : ℕ) (p : Plane Float) → fitting w h p ≡ true → (x y : ℕ) → x < w → y < h → Inside (p .shape) x y
 inside-of w h p f x y a b =
     let z = sized-true w h (p .shape) (length (p .list)) f in
     record { across = omega (arith, z .width); down = omega (arith, z .height) }
