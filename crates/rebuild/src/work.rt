@@ -8,7 +8,7 @@ ghost use lib.ListN.{length};
 ghost use denote.Ref.{now as at};
 ghost use Rattle.grid.specs.Index.{Lawful, Inside};
 ghost use Rattle.grid.specs.Plane.{viewed};
-ghost use Rattle.kernel.specs.Maps.{side, maps, imaged};
+ghost use Rattle.kernel.specs.Maps.{side, maps, Block-of, imaged};
 ghost use Rattle.kernel.specs.Corner.{log2 as exponent};
 ghost use Rattle.rebuild.specs.Rebuilt.{Ready, lf-at, divided, rebuilding};
 use blocks::Varblock;
@@ -98,6 +98,27 @@ fn forward_larger<K: Kernel>(
     }
 }
 
+/// The kernel's inverse map, over a varblock's block.
+fn inverse_block<K: Kernel>(
+    kernel: &K,
+    kind: u32,
+    list: &mut [f32],
+    shape: Shape,
+    area: Area,
+    scratch: &mut [f32],
+)
+    requires lawful { ⌜ Lawful shape (length (now list)) ⌝ }
+    requires block { ⌜ Block-of kind area ⌝ }
+    requires wide { ⌜ 1 ≤ area .width ⌝ }
+    requires tall { ⌜ 1 ≤ area .height ⌝ }
+    requires across { ⌜ area .x + area .width ≤ shape .width ⌝ }
+    requires down { ⌜ area .y + area .height ≤ shape .height ⌝ }
+    requires room { ⌜ 512 ≤ length (now scratch) ⌝ }
+    ensures { λ _. ⌜ now (list .exit) ≡ imaged shape area (inv kind) (now (list .entry)) ⌝ }
+{
+    inverse_patch(kernel, kind, list, shape, area, scratch);
+}
+
 /// rebuild in one channel.
 #[derive(Drop)]
 pub struct Rebuilding<'k, 'l, K> {
@@ -151,6 +172,6 @@ pub impl<'k, 'l, K: Kernel> Work for Rebuilding<'k, 'l, K> as RebuildingWork {
             width: 8 * size.width,
             height: 8 * size.height,
         };
-        inverse_patch(self.kernel, block.kind, list, shape, area, scratch);
+        inverse_block(self.kernel, block.kind, list, shape, area, scratch);
     }
 }

@@ -48,8 +48,8 @@ paint-requires-2 g c κs =
       can = λ i j a b. (z .narrow, z .low);
     }
 
-pub inverse-patch-requires : need.inverse-patch-requires
-inverse-patch-requires g c κs =
+pub inverse-block-requires : need.inverse-block-requires
+inverse-block-requires g c κs =
     let b = size-bounded _ _ (c .pre .carried) in
     let w = wide-is _ _ (c .pre .carried) in
     let h = high-is _ _ (c .pre .carried) in
@@ -68,4 +68,4 @@ returns g c =
     rebuilt-done (maps (g .K·Kernel .fwd) (g .K·Kernel .inv)) (viewed (c .args .self .now .lf)) (c .args .block) (c .args .shape) (c .args .list .now)
     (c .pre .lawful) (c .args .size .width) (c .args .size .height) (sym (wide-is _ _ (c .pre .carried))) (sym (high-is _ _ (c .pre .carried)))
     (c .pre .across) (c .pre .down) _ _ _ _
-    (c .paint .ensures) (c .forward-larger .ensures) (c .paint-2 .ensures) (c .inverse-patch .ensures)
+    (c .paint .ensures) (c .forward-larger .ensures) (c .paint-2 .ensures) (c .inverse-block .ensures)
