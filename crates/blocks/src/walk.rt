@@ -44,8 +44,8 @@ pub fn each_block<W: Work>(
     requires samples { Lawful shape (length list.old) }
     requires width { shape.width ≡ 8 * map.shape.width }
     requires height { shape.height ≡ 8 * map.shape.height }
-    requires can { (v : Varblock) → OfMap map.shape.width map.shape.height (cells map.shape map.list.now) v → ready work.now (length scratch.old) v }
-    ensures samples { list.new ≡ by_blocks shape (cells map.entry.shape map.entry.list.now) (made work.now) list.old }
+    requires can { (v : Varblock) → OfMap map.shape.width map.shape.height (cells map.shape map.list.now) v → W.Work.ready work.now (length scratch.old) v }
+    ensures samples { list.new ≡ by_blocks shape (cells map.entry.shape map.entry.list.now) (W.Work.made work.now) list.old }
     ensures count { result ≡ length (leads map.entry.shape.width map.entry.shape.height (cells map.entry.shape map.entry.list.now)) }
 {
     let width = map.shape.width;

@@ -1,5 +1,7 @@
 //! The inverse transforms of one cell, over its 64 numbers in row order.
 
+#![tactic(auto)]
+
 mod cell;
 mod columns;
 mod transform;

@@ -1,5 +1,7 @@
 //! The discrete cosine transforms of lists of 1, 2, 4, .. 256 numbers, in place: of one list, or of eight side by side.
 
+#![tactic(auto)]
+
 mod dct;
 mod dct_common;
 mod strips;

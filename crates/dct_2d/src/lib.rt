@@ -1,5 +1,7 @@
 //! The two-dimensional discrete cosine transform of a patch, in place.
 
+#![tactic(auto)]
+
 ghost use Rattle.std.specs.Prelude.{◌≡◌, ℕ, ◌^◌, ◌≤◌, map, length, Decides};
 ghost use Rattle.std.specs.List.{range_with_len};
 ghost use Rattle.grid.specs.Index.{Lawful};

@@ -1,5 +1,7 @@
 //! Examples of the two-dimensional transform.
 
+#![tactic(auto)]
+
 use dct::DctDirection;
 use dct_2d::dct_2d;
 use grid::Shape;

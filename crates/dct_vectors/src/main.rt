@@ -1,6 +1,8 @@
 //! Both transforms of patches of every size from 1 × 1 to 256 × 256, over several kinds of numbers, a line with a hash for each.
 //! The lines that it has to print were written by the Rust code that the transforms follow.
 
+#![tactic(auto)]
+
 use dct::DctDirection;
 use dct_2d::dct_2d;
 use grid::Shape;

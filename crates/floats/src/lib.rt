@@ -1,5 +1,7 @@
 //! Laws on f32, for crates above: zeros, sameness up to a zero's sign, exact doubling and halving, whole numbers.
 
+#![tactic(auto)]
+
 ghost use Rattle.std.specs.Prelude.{◌≡◌};
 ghost use Rattle.floats.specs.Arith.{plus, over, four};
 ghost use Rattle.floats.specs.Same.{Same, Number, Room};

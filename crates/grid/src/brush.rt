@@ -73,8 +73,8 @@ fn stroke_at<T: Copy, B: Brush<T>>(
 ) -> T
     requires lawful { Lawful shape (length list.now) }
     requires inside { Inside shape x y }
-    requires can { ready brush.now i j }
-    ensures { (d : T) → result ≡ made brush.now i j (slice_index_or list.now (index shape x y) d) }
+    requires can { B.Brush.ready brush.now i j }
+    ensures { (d : T) → result ≡ B.Brush.made brush.now i j (slice_index_or list.now (index shape x y) d) }
 {
     let old = read(list, shape, x, y);
     brush.stroke(i, j, old)
@@ -85,8 +85,8 @@ pub fn paint<T: Copy, B: Brush<T>>(list: &mut [T], shape: Shape, area: Area, bru
     requires lawful { Lawful shape (length list.old) }
     requires across { area.x + area.width ≤ shape.width }
     requires down { area.y + area.height ≤ shape.height }
-    requires can { (i j : ℕ) → i < area.width → j < area.height → ready brush.now i j }
-    ensures { list.new ≡ painted shape (patch area.x area.y area.width area.height (made brush.now)) list.old }
+    requires can { (i j : ℕ) → i < area.width → j < area.height → B.Brush.ready brush.now i j }
+    ensures { list.new ≡ painted shape (patch area.x area.y area.width area.height (B.Brush.made brush.now)) list.old }
 {
     for j in 0..area.height {
         for i in 0..area.width {

@@ -1,5 +1,7 @@
 //! A grid: a lent list with a width, a height and a stride, for any kind of element.
 
+#![tactic(auto)]
+
 ghost use Rattle.std.specs.Prelude.{◌≡◌, ℕ, ◌+◌, ◌-◌, ◌*◌, ◌^◌, ◌<◌, ◌≤◌, length, Decides, slice_index_or};
 ghost use Rattle.grid.specs.Index.{index, sub, start, Inside, Lawful, sized};
 ghost use Rattle.grid.specs.Painted.{painted, patch, solid};

@@ -1,5 +1,7 @@
 //! HF dequantise: coefficients become samples.
 
+#![tactic(auto)]
+
 mod checks;
 mod dequantise;
 

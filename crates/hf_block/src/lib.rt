@@ -1,5 +1,7 @@
 //! HF dequantise in one channel: what becomes of the samples of its varblocks.
 
+#![tactic(auto)]
+
 mod channel;
 mod sample;
 mod work;

@@ -1,5 +1,7 @@
 //! HF correlate: X and B gain a part of Y, tile by tile.
 
+#![tactic(auto)]
+
 mod correlate;
 mod gains;
 mod tiles;

@@ -1,5 +1,7 @@
 //! Examples of HF dequantise and HF correlate, run.
 
+#![tactic(auto)]
+
 #[cfg(test)]
 mod correlate;
 #[cfg(test)]

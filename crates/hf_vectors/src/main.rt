@@ -1,6 +1,8 @@
 //! Frames of mixed kinds through HF dequantise and HF correlate. What this has to write was written by the Rust code that the
 //! library is a port of: for each row of samples the bits of its first, and a sum over the bits of all.
 
+#![tactic(auto)]
+
 mod source;
 
 ghost use Rattle.std.specs.Prelude.{◌≡◌, ◌≤◌};

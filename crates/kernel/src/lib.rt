@@ -1,5 +1,7 @@
 //! A kernel: a forward map of patches and an inverse map of blocks.
 
+#![tactic(auto)]
+
 ghost use Rattle.std.specs.Prelude.{◌≡◌, ℕ, ◌+◌, ◌≤◌, true, length};
 ghost use Rattle.grid.specs.Index.{Lawful};
 ghost use Rattle.dct_2d.specs.Plane.{Patch};
@@ -40,7 +42,7 @@ pub fn forward_patch<K: Kernel>(
     requires across { area.x + area.width ≤ shape.width }
     requires down { area.y + area.height ≤ shape.height }
     requires room { 512 ≤ length scratch.old }
-    ensures { list.new ≡ imaged shape area (fwd area.width area.height) list.old }
+    ensures { list.new ≡ imaged shape area (K.Kernel.fwd area.width area.height) list.old }
 {
     let start = shape.start(area.x, area.y, area.height);
     let sub = shape.patch(area.width, area.height);
@@ -63,7 +65,7 @@ pub fn inverse_patch<K: Kernel>(
     requires across { area.x + area.width ≤ shape.width }
     requires down { area.y + area.height ≤ shape.height }
     requires room { 512 ≤ length scratch.old }
-    ensures { list.new ≡ imaged shape area (inv kind) list.old }
+    ensures { list.new ≡ imaged shape area (K.Kernel.inv kind) list.old }
 {
     let start = shape.start(area.x, area.y, area.height);
     let sub = shape.patch(area.width, area.height);

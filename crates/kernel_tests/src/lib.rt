@@ -1,5 +1,7 @@
 //! Examples of the kernels, run.
 
+#![tactic(auto)]
+
 #[cfg(test)]
 mod tests {
     use cells::{aux_idct2_in_place, transform_dct2, transform_hornuss};

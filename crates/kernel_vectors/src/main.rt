@@ -1,6 +1,8 @@
 //! The inverse of every kind and the forward map of every size over made-up numbers, in grids with padding.
 //! What it must print was written by the Rust crate.
 
+#![tactic(auto)]
+
 use grid::Shape;
 use kernel::Kernel;
 use kinds::kind_size;

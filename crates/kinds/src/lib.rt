@@ -1,5 +1,7 @@
 //! The kinds of varblock that are carried, with their sizes in cells.
 
+#![tactic(auto)]
+
 ghost use Rattle.std.specs.Prelude.{◌≡◌, ◌-◌, ◌*◌, ◌/◌, ◌^◌, ◌≤◌};
 ghost use Rattle.kinds.specs.Kinds.{size_of};
 

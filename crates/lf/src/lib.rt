@@ -1,5 +1,7 @@
 //! The stages on LF samples: LF dequantise, LF correlate and LF smooth.
 
+#![tactic(auto)]
+
 mod around;
 mod correlate;
 mod dequantise;

@@ -1,5 +1,6 @@
 //! What LF smooth lays out in scratch, and a channel that moves by it.
 
+ghost use Rattle.std.specs.Float.{float_max};
 ghost use Rattle.std.specs.Prelude.{◌≡◌, ℕ, ◌+◌, ◌-◌, ◌*◌, ◌^◌, ◌<◌, ◌≤◌, true, length, Float};
 ghost use Rattle.grid.specs.Became.{Became};
 ghost use Rattle.grid.specs.Plane.{Plane, lent, viewed, fitting};
@@ -157,12 +158,18 @@ impl<'x, 'y, 'b> Brush<f32> for Share<'x, 'y, 'b> {
 
     fn stroke(&self, i: usize, j: usize, _old: f32) -> f32 {
         let (x, y) = (i + 1, j + 1);
-        let gap = 0.5f32
-            .max(gap(self.steps.x, sample_at(self.x, x, y)))
-            .max(gap(self.steps.y, sample_at(self.y, x, y)))
-            .max(gap(self.steps.b, change(self.b, x, y)));
-        (3.0 - 4.0 * gap).max(0.0)
+        let gap_x = larger(0.5, gap(self.steps.x, sample_at(self.x, x, y)));
+        let gap_y = larger(gap_x, gap(self.steps.y, sample_at(self.y, x, y)));
+        let gap = larger(gap_y, gap(self.steps.b, change(self.b, x, y)));
+        larger(3.0 - 4.0 * gap, 0.0)
     }
+}
+
+/// The larger of two; the first of two that compare equal, as zeros of either sign do; the other where one is NaN.
+fn larger(a: f32, b: f32) -> f32
+    ensures { result ≡ float_max a b }
+{
+    if (b <= a) | b.is_nan() { a } else { b }
 }
 
 /// A change in steps.

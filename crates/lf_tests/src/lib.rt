@@ -1,5 +1,7 @@
 //! Examples of LF dequantise, LF correlate and LF smooth, run.
 
+#![tactic(auto)]
+
 #[cfg(test)]
 mod tests {
     use frame::{Frame, Stage};

@@ -1,6 +1,8 @@
 //! Reads cases of the stages on LF samples from standard input, a line each, and prints the samples that each leaves.
 //! What it must print was written by the Rust crate.
 
+#![tactic(auto)]
+
 mod words;
 
 use anyhow::anyhow;

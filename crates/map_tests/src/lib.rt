@@ -1,5 +1,7 @@
 //! Examples of `open` and `place`, run.
 
+#![tactic(auto)]
+
 #[cfg(test)]
 mod tests {
     use frame::Frame;

@@ -1,5 +1,7 @@
 //! Reads a script of calls from standard input, makes them, and prints what each answers.
 
+#![tactic(auto)]
+
 mod draw;
 mod memory;
 mod player;

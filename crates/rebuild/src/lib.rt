@@ -1,5 +1,7 @@
 //! rebuild, over any kernel.
 
+#![tactic(auto)]
+
 mod work;
 
 ghost use Rattle.std.specs.Prelude.{◌≡◌, ℕ, ◌≤◌, true, length, is_err};
@@ -68,7 +70,7 @@ fn rebuild_channel<K: Kernel>(
     scratch: &mut [f32],
 ) -> usize
     requires { Rebuildable (viewed map) (viewed lf) (lent out.old) (length scratch.old) }
-    ensures samples { Became out.old out.new (rebuilt (maps fwd inv) (viewed map.entry) (viewed lf.entry) (lent out.old)) }
+    ensures samples { Became out.old out.new (rebuilt (maps K.Kernel.fwd K.Kernel.inv) (viewed map.entry) (viewed lf.entry) (lent out.old)) }
     ensures count { result ≡ length (leads map.entry.shape.width map.entry.shape.height (cells map.entry.shape map.entry.list.now)) }
 {
     let shape = out.shape;
@@ -89,9 +91,9 @@ fn rebuild_channels<K: Kernel>(
     requires x { Rebuildable (viewed map) (viewed lf.x) (lent x.old) (length scratch.old) }
     requires y { Rebuildable (viewed map) (viewed lf.y) (lent y.old) (length scratch.old) }
     requires b { Rebuildable (viewed map) (viewed lf.b) (lent b.old) (length scratch.old) }
-    ensures x { Became x.old x.new (rebuilt (maps fwd inv) (viewed map.entry) (viewed lf.entry.x) (lent x.old)) }
-    ensures y { Became y.old y.new (rebuilt (maps fwd inv) (viewed map.entry) (viewed lf.entry.y) (lent y.old)) }
-    ensures b { Became b.old b.new (rebuilt (maps fwd inv) (viewed map.entry) (viewed lf.entry.b) (lent b.old)) }
+    ensures x { Became x.old x.new (rebuilt (maps K.Kernel.fwd K.Kernel.inv) (viewed map.entry) (viewed lf.entry.x) (lent x.old)) }
+    ensures y { Became y.old y.new (rebuilt (maps K.Kernel.fwd K.Kernel.inv) (viewed map.entry) (viewed lf.entry.y) (lent y.old)) }
+    ensures b { Became b.old b.new (rebuilt (maps K.Kernel.fwd K.Kernel.inv) (viewed map.entry) (viewed lf.entry.b) (lent b.old)) }
     ensures count { result ≡ length (leads map.entry.shape.width map.entry.shape.height (cells map.entry.shape map.entry.list.now)) }
 {
     let count = rebuild_channel(map, x, kernel, lf.x, scratch);
@@ -122,9 +124,9 @@ pub fn rebuild<K: Kernel>(
 ) -> Result<u32, Refusal>
     ensures answer { result ≡ rebuild_answer frame.old.w8 frame.old.h8 frame.old.stage (viewed map.entry) (planes (viewed lf.entry.x) (viewed lf.entry.y) (viewed lf.entry.b)) (planes (lent x.old) (lent y.old) (lent b.old)) (length scratch.old) }
     ensures frame { InStage frame.old frame.new (kept_or result frame.old.stage stage.Rebuilt) }
-    ensures x { Became x.old x.new (kept_or result x.old.list.now (rebuilt (maps fwd inv) (viewed map.entry) (viewed lf.entry.x) (lent x.old))) }
-    ensures y { Became y.old y.new (kept_or result y.old.list.now (rebuilt (maps fwd inv) (viewed map.entry) (viewed lf.entry.y) (lent y.old))) }
-    ensures b { Became b.old b.new (kept_or result b.old.list.now (rebuilt (maps fwd inv) (viewed map.entry) (viewed lf.entry.b) (lent b.old))) }
+    ensures x { Became x.old x.new (kept_or result x.old.list.now (rebuilt (maps K.Kernel.fwd K.Kernel.inv) (viewed map.entry) (viewed lf.entry.x) (lent x.old))) }
+    ensures y { Became y.old y.new (kept_or result y.old.list.now (rebuilt (maps K.Kernel.fwd K.Kernel.inv) (viewed map.entry) (viewed lf.entry.y) (lent y.old))) }
+    ensures b { Became b.old b.new (kept_or result b.old.list.now (rebuilt (maps K.Kernel.fwd K.Kernel.inv) (viewed map.entry) (viewed lf.entry.b) (lent b.old))) }
     ensures scratch { is_err result ≡ true → scratch.new ≡ scratch.old }
 {
     let (w, h) = (8 * frame.w8(), 8 * frame.h8());

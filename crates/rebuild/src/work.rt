@@ -79,7 +79,7 @@ fn forward_larger<K: Kernel>(
     requires across { area.x + area.width ≤ shape.width }
     requires down { area.y + area.height ≤ shape.height }
     requires room { 512 ≤ length scratch.old }
-    ensures { list.new ≡ (if nat_lt 1 (area.width * area.height) then imaged shape area (fwd area.width area.height) list.old else list.old) }
+    ensures { list.new ≡ (if nat_lt 1 (area.width * area.height) then imaged shape area (K.Kernel.fwd area.width area.height) list.old else list.old) }
 {
     if area.width * area.height > 1 {
         forward_patch(kernel, list, shape, area, scratch);
@@ -102,7 +102,7 @@ fn inverse_block<K: Kernel>(
     requires across { area.x + area.width ≤ shape.width }
     requires down { area.y + area.height ≤ shape.height }
     requires room { 512 ≤ length scratch.old }
-    ensures { list.new ≡ imaged shape area (inv kind) list.old }
+    ensures { list.new ≡ imaged shape area (K.Kernel.inv kind) list.old }
 {
     inverse_patch(kernel, kind, list, shape, area, scratch);
 }

@@ -1,5 +1,7 @@
 //! Examples of rebuild over 1 × 2 cells, run.
 
+#![tactic(auto)]
+
 #[cfg(test)]
 mod tests {
     use frame::{Frame, Stage};

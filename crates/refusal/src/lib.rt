@@ -1,5 +1,7 @@
 //! What a call answers that it refuses: a reason and a place.
 
+#![tactic(auto)]
+
 ghost use Rattle.std.specs.Prelude.{◌≡◌};
 ghost use Rattle.refusal.specs.Reasons.{number_of, name_of};
 ghost use Rattle.refusal.specs.Verdicts.{refusal, demand};

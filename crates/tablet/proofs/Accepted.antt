@@ -56,7 +56,7 @@ sound k e =
     record {
       lengths = b.0;
       block = d.0;
-      one = λ q. subst (λ (b : Bool). cond b (single k) true ≡ true) (Rattle.std.proofs.lemmas.Bool.eq_eqb (block_bytes k) 256 q) d.1;
+      one = λ q. subst (λ (b : Bool). cond b (single k) true ≡ true) (Rattle.std.proofs.lemmas.Bool.eq-eqb (block_bytes k) 256 q) d.1;
       bytes = cond-true (ltb k 24) (256 * (wide k * high k)) 0 (lt-ltb k 24 p.0);
     }
 
@@ -106,7 +106,7 @@ none_is k e =
     none_shape k (grind (arith, nat_tests)) (bytes (ltb k 24) (high k) w)
   where
     bytes : (b : Bool) (h : ℕ) → wide k ≡ 0 → cond b (256 * (wide k * h)) 0 ≡ 0
-    bytes true h w = ap (λ (n : ℕ). 256 * (n * h)) w ∙ ap (λ (n : ℕ). 256 * n) (native.Mathlib.Nat.zero_mul h)
+    bytes true h w = ap (λ (n : ℕ). 256 * (n * h)) w ∙ ap (λ (n : ℕ). 256 * n) (native.Mathlib.Nat.zero-mul h)
     bytes false h w = refl
 
 pub large_is : (k : ℕ) → ltb k 24 ≡ false → Shaped k (record { width = 0; height = 0; stride = 0 })
@@ -132,7 +132,7 @@ some_bytes k n e ne = go (cases_Bool (accepted k))
       | inr a ↦ cond-false (ltb k 24) _ 0 a
       | inl a ↦
           let w : wide k ≡ 0 = grind (arith, nat_tests) in
-          cond-true (ltb k 24) (256 * (wide k * high k)) 0 a ∙ ap (λ (n : ℕ). 256 * (n * high k)) w ∙ ap (λ (n : ℕ). 256 * n) (native.Mathlib.Nat.zero_mul (high k))
+          cond-true (ltb k 24) (256 * (wide k * high k)) 0 a ∙ ap (λ (n : ℕ). 256 * (n * high k)) w ∙ ap (λ (n : ℕ). 256 * n) (native.Mathlib.Nat.zero-mul (high k))
     ]
 
     go : (accepted k ≡ true) ⊎ (accepted k ≡ false) → accepted k ≡ true

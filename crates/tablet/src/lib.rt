@@ -1,5 +1,7 @@
 //! The crate kernel at the tablet's edge: one block as bytes, four to a number, lowest first.
 
+#![tactic(auto)]
+
 ghost use Rattle.std.specs.Prelude.{◌≡◌, ◌+◌, ◌*◌, ◌≤◌, true, [], ◌∷◌, length, nat_lt};
 ghost use Rattle.dct_2d.specs.Replaced.{replaced};
 ghost use Rattle.transform.specs.Maps.{inverse as inverse_map, single};

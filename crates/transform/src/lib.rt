@@ -1,5 +1,7 @@
 //! The kernels: the crate's own, with the inverse transforms of the 23 kinds, and the mean kernel, for thumbnails.
 
+#![tactic(auto)]
+
 mod mean;
 mod patches;
 mod vardct;

@@ -1,5 +1,7 @@
 //! The map of a frame: which varblock each cell belongs to, and the check of a map.
 
+#![tactic(auto)]
+
 mod cells;
 mod lawful;
 

@@ -1,5 +1,7 @@
 //! The weights that a host lends: for each channel a list, and where in it the weights of each kind start.
 
+#![tactic(auto)]
+
 mod finite;
 mod placed;
 

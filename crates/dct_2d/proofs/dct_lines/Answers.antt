@@ -27,7 +27,7 @@ loop-i-preserved c k e =
     let n = back ax s.width s.height in
     let p : Patch = lined d ax k (elements s xs) in
     let r = c.gather.new.line in
-    let r' = c.dct-line.new.line in
+    let r' = c.dct_line.new.line in
     let hi : i < fore ax s.width s.height = omega arith in
     let e0 : length c.loop-i.line ≡ n = omega arith in
     let e1 : length r ≡ n = omega arith in
@@ -35,7 +35,7 @@ loop-i-preserved c k e =
     let er : r ≡ map (read_line s ax i (painted s (lined_to ax i p) xs)) (range_with_len 0 n) =
     c.gather.ensures ∙ ap₂ (λ (v : List Float) (m : ℕ). map (read_line s ax i v) (range_with_len 0 m)) (c.loop-i.invariant k e) e0 in
     let er' : r' ≡ map (line d k (at r)) (range_with_len 0 n) =
-    c.dct-line.ensures k (e1 ∙ e) ∙ ap (λ (m : ℕ). map (line d k (at r)) (range_with_len 0 m)) e1 in
+    c.dct_line.ensures k (e1 ∙ e) ∙ ap (λ (m : ℕ). map (line d k (at r)) (range_with_len 0 m)) e1 in
     c.scatter.ensures
     ∙ ap₂ (λ (m : ℕ) (v : List Float). painted s (drawn ax i m r') v) e2 (c.loop-i.invariant k e)
     ∙ lined_more s ax p xs c.requires.lawful i n r' (let z : n ≡ n = omega arith in z)

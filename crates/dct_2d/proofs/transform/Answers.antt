@@ -2,8 +2,8 @@ use Rattle.std.proofs.Common.{arith}
 use Rattle.dct.proofs.Lanes.{long_from}
 use Rattle.dct_2d.proofs.transform.Goals as goal
 
-pub inverse-patch-requires : goal.inverse-patch-requires
-inverse-patch-requires c =
+pub inverse_patch-requires : goal.inverse_patch-requires
+inverse_patch-requires c =
     let q = c.requires.2 in
     record {
       lawful = q.lawful;

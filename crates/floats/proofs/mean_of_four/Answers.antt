@@ -12,7 +12,7 @@ returns c =
     let q = c.args.b in
     let r = c.args.c in
     let s = c.args.d in
-    let e = c.sum-of-four.ensures in
+    let e = c.sum_of_four.ensures in
     record {
       value = ap (λ (t : Float). over t four) e;
       flat = λ n room f g h.

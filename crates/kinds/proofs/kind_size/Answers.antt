@@ -55,8 +55,8 @@ returns-in-18-to-26-3 c =
     let s = large_size c.args.kind (omega arith) (omega arith) in
     grind (arith, nat_tests)
 
-pub returns-in-default : goal.returns-in-default
-returns-in-default c = not_carried c.args.kind (inr (omega arith, omega arith))
+pub returns-in_default : goal.returns-in_default
+returns-in_default c = not_carried c.args.kind (inr (omega arith, omega arith))
 
-pub returns-in-default·2 : goal.returns-in-default·2
-returns-in-default·2 c = not_carried c.args.kind (inl (omega arith))
+pub returns-in_default-2 : goal.returns-in_default-2
+returns-in_default-2 c = not_carried c.args.kind (inl (omega arith))

@@ -2,8 +2,8 @@ use Rattle.grid.specs.Plane.{viewed, lent}
 use Rattle.rebuild.proofs.Accepted.{all_ready}
 use Rattle.rebuild.proofs.rebuild_channel.Goals as goal
 
-pub each-block-requires : goal.each-block-requires
-each-block-requires g c =
+pub each_block-requires : goal.each_block-requires
+each_block-requires g c =
     let r = c.requires in
     record {
       lawful = r.map_grid;

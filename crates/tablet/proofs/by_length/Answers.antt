@@ -2,8 +2,8 @@ use Rattle.std.proofs.Common.{◌≡◌, ◌*◌, length, sym, ◌∙◌, arith}
 use Rattle.tablet.proofs.Accepted.{sound, block_of, last_length}
 use Rattle.tablet.proofs.by_length.Goals as goal
 
-pub through-cell-requires : goal.through-cell-requires
-through-cell-requires c =
+pub through_cell-requires : goal.through_cell-requires
+through_cell-requires c =
     let e : length c.args.bytes.now ≡ 256 = omega arith in
     record { single = (sound c.args.kind c.requires.accepted).one (sym c.requires.size ∙ e); size = e }
 
@@ -42,8 +42,8 @@ through-requires-in-32768 c =
     let e : length c.args.bytes.now ≡ 4 * 8192 = omega arith in
     record { size = e; rows = c.requires.rows; block = block_of c.args.kind (length c.args.bytes.now) 8192 c.requires.accepted c.requires.size e }
 
-pub through-requires-in-default : goal.through-requires-in-default
-through-requires-in-default c =
+pub through-requires-in_default : goal.through-requires-in_default
+through-requires-in_default c =
     let e : length c.args.bytes.now ≡ 4 * 16384 =
     last_length c.args.kind (length c.args.bytes.now) c.requires.accepted c.requires.size
     (λ z. omega arith) (λ z. omega arith) (λ z. omega arith) (λ z. omega arith) (λ z. omega arith) (λ z. omega arith) (λ z. omega arith) (λ z. omega arith) in

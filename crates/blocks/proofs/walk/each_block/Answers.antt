@@ -22,14 +22,14 @@ loop-block-init g c = (
   refl,
 )
 
-pub returns-in-default-kind-size : goal.returns-in-default-kind-size
-returns-in-default-kind-size g c =
+pub returns-in_default-kind_size : goal.returns-in_default-kind_size
+returns-in_default-kind_size g c =
     let w = c.args.map.shape.width in
     let h = c.args.map.shape.height in
     let m = cells c.args.map.shape c.args.map.list.now in
     let f = c.in-Some.ensures in
     let k = whole w h m c.requires.cells c.in-Some.block (found_of w h m _ _ f) in
-    absurd (c.in-default-kind-size.not-Some k.size (c.kind-size.ensures ∙ k.carried))
+    absurd (c.in_default-kind_size.not-Some k.size (c.kind_size.ensures ∙ k.carried))
 
 pub work-requires : goal.work-requires
 work-requires g c =
@@ -39,8 +39,8 @@ work-requires g c =
     let v = c.in-Some.block in
     let f = c.in-Some.ensures in
     let k = whole w h m c.requires.cells v (found_of w h m _ _ f) in
-    let carried : size_of v.kind ≡ Some c.in-Some-kind-size.size = sym c.kind-size.ensures ∙ c.in-Some-kind-size.is in
-    let same = same_size v.kind k.size c.in-Some-kind-size.size k.carried carried in
+    let carried : size_of v.kind ≡ Some c.in-Some-kind_size.size = sym c.kind_size.ensures ∙ c.in-Some-kind_size.is in
+    let same = same_size v.kind k.size c.in-Some-kind_size.size k.carried carried in
     record {
       lawful = subst (Lawful c.args.shape) (sym c.loop-block.auto.list) c.requires.samples;
       carried = carried;
@@ -51,8 +51,8 @@ work-requires g c =
           (c.requires.can v (found_of w h m _ _ f));
     }
 
-pub overflow-add-count : goal.overflow-add-count
-overflow-add-count g c =
+pub overflow_add-count : goal.overflow_add-count
+overflow_add-count g c =
     let a = area_le _ _ c.requires.lawful in
     let i = c.loop-block.invariant in
     let b = count_below c.args.map.shape.width (cells c.args.map.shape c.args.map.list.now) c.loop-block.from in
@@ -60,8 +60,8 @@ overflow-add-count g c =
     let i2 = i.2 in
     search rules
 
-pub next-cell-from-requires : goal.next-cell-from-requires
-next-cell-from-requires g c =
+pub next_cell-from-requires : goal.next_cell-from-requires
+next_cell-from-requires g c =
     let a = area_le _ _ c.requires.lawful in
     let b = c.in-Some.ensures.below in
     search rules
@@ -77,7 +77,7 @@ loop-block-preserved g c =
     let v = c.in-Some.block in
     let f = c.in-Some.ensures in
     let k = whole w h m c.requires.cells v (found_of w h m _ _ f) in
-    let next = c.next-cell-from.ensures in (
+    let next = c.next_cell-from.ensures in (
       omega (arith, f.below),
       c.work.ensures
           ∙ ap (one_block s image v)
@@ -91,7 +91,7 @@ loop-block-preserved g c =
 pub loop-block-smaller : goal.loop-block-smaller
 loop-block-smaller g c =
     let f = c.in-Some.ensures in
-    omega (arith, f.below, f.from, c.next-cell-from.ensures)
+    omega (arith, f.below, f.from, c.next_cell-from.ensures)
 
 pub returns : goal.returns
 returns g c =
@@ -101,7 +101,7 @@ returns g c =
     let m = cells c.args.map.shape c.args.map.list.now in
     let image = g.W.Work.made c.args.work.now in
     let xs = c.args.list.now in
-    let none = c.in-default.ensures in
+    let none = c.in_default.ensures in
     record {
       samples =
           c.loop-block.invariant.1

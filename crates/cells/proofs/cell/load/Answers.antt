@@ -9,8 +9,8 @@ offset-requires c =
     spot_below c.args.shape (length c.args.list.now) c.loop-x.x c.loop-y.y c.requires.wide c.requires.high c.requires.lawful (omega arith) (omega arith) in
     record { inside = spot_inside c.args.shape c.loop-x.x c.loop-y.y c.requires.wide c.requires.high (omega arith) (omega arith); fits = search rules }
 
-pub offset-bounds-list-offset : goal.offset-bounds-list-offset
-offset-bounds-list-offset c =
+pub offset_bounds-list-offset : goal.offset_bounds-list-offset
+offset_bounds-list-offset c =
     let b : index c.args.shape c.loop-x.x c.loop-y.y < length c.args.list.now =
     spot_below c.args.shape (length c.args.list.now) c.loop-x.x c.loop-y.y c.requires.wide c.requires.high c.requires.lawful (omega arith) (omega arith) in
     search rules

@@ -13,9 +13,9 @@ loop-x-init c p q hp hq = absurd (omega arith)
 
 pub loop-x-preserved : goal.loop-x-preserved
 loop-x-preserved c =
-    columns_more (λ x y. line Inverse 2 (λ j. cell c.args.block.now x (2 * j + y / 4)) (y % 4)) c.loop-x.out c.put-column.new.out c.inverse-halves-values.result c.loop-x.x (omega arith)
-    (λ q hq. ap (λ (t : List Float). at t q) (c.inverse-halves-values.ensures ∙ ap halves c.column.ensures) ∙ column_halves c.args.block.now c.loop-x.x q (omega arith) hq)
-    c.loop-x.invariant c.put-column.ensures
+    columns_more (λ x y. line Inverse 2 (λ j. cell c.args.block.now x (2 * j + y / 4)) (y % 4)) c.loop-x.out c.put_column.new.out c.inverse_halves-values.result c.loop-x.x (omega arith)
+    (λ q hq. ap (λ (t : List Float). at t q) (c.inverse_halves-values.ensures ∙ ap halves c.column.ensures) ∙ column_halves c.args.block.now c.loop-x.x q (omega arith) hq)
+    c.loop-x.invariant c.put_column.ensures
 
 pub returns : goal.returns
 returns c = halves_all (cell c.args.block.now) c.loop-x.out (λ p q hp hq. c.loop-x.invariant p q (omega arith) hq)

@@ -12,9 +12,9 @@ loop-y-init c p q hp hq = absurd (omega arith)
 
 pub loop-y-preserved : goal.loop-y-preserved
 loop-y-preserved c =
-    columns_more (down Inverse 3 (flipped (cell c.args.block.now))) c.loop-y.out c.put-column.new.out c.inverse8-values.result c.loop-y.y (omega arith)
+    columns_more (down Inverse 3 (flipped (cell c.args.block.now))) c.loop-y.out c.put_column.new.out c.inverse8-values.result c.loop-y.y (omega arith)
     (λ q hq. ap (λ (t : List Float). at t q) (c.inverse8-values.ensures ∙ ap (idct 3) c.row.ensures) ∙ row_down c.args.block.now c.loop-y.y q (omega arith) hq)
-    c.loop-y.invariant c.put-column.ensures
+    c.loop-y.invariant c.put_column.ensures
 
 pub returns : goal.returns
 returns c = columns_all (flipped (cell c.args.block.now)) c.loop-y.out (λ p q hp hq. c.loop-y.invariant p q (omega arith) hq)

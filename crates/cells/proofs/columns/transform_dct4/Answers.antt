@@ -7,6 +7,6 @@ use Rattle.cells.proofs.columns.transform_dct4.Goals as goal
 
 pub returns : goal.returns
 returns c =
-    c.inverse-quarters.ensures
-    ∙ ap (λ (p : Patch). swapped (half_downs (flipped (half_downs p)))) c.aux-idct2-in-place.ensures
+    c.inverse_quarters.ensures
+    ∙ ap (λ (p : Patch). swapped (half_downs (flipped (half_downs p)))) c.aux_idct2_in_place.ensures
     ∙ dct4_steps (cell c.args.coeff.now)

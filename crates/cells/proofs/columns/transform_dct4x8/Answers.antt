@@ -11,7 +11,7 @@ returns-then-tr c =
     let p = cell c.args.coeff.now in
     c.flip.ensures
     ∙ ap flipped
-    (c.inverse-half-rows-samples.ensures
+    (c.inverse_half_rows-samples.ensures
     ∙ ap (λ (q : Patch). half_downs (flipped (downs (flipped q)))) c.pair.ensures
     ∙ dct4x8_steps p)
     ∙ ap (λ (b : Bool). by_turn b p) (sym c.if-tr.true)
@@ -19,7 +19,7 @@ returns-then-tr c =
 pub returns-else-tr : goal.returns-else-tr
 returns-else-tr c =
     let p = cell c.args.coeff.now in
-    c.inverse-half-rows-samples.ensures
+    c.inverse_half_rows-samples.ensures
     ∙ ap (λ (q : Patch). half_downs (flipped (downs (flipped q)))) c.pair.ensures
     ∙ dct4x8_steps p
     ∙ ap (λ (b : Bool). by_turn b p) (sym c.if-tr.false)

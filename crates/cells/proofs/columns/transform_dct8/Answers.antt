@@ -7,6 +7,6 @@ use Rattle.cells.proofs.columns.transform_dct8.Goals as goal
 
 pub returns : goal.returns
 returns c =
-    c.inverse-rows-2.ensures
-    ∙ ap (λ (p : Patch). downs (flipped p)) c.inverse-rows.ensures
+    c.inverse_rows-2.ensures
+    ∙ ap (λ (p : Patch). downs (flipped p)) c.inverse_rows.ensures
     ∙ dct8_steps (cell c.args.coeff.now)

@@ -10,21 +10,21 @@ get-requires c =
     let z = sized_true _ _ _ _ c.requires in
     record { lawful = z.lawful; inside = record { across = omega (arith, z.width); down = omega (arith, z.height) } }
 
-pub returns-then-not-is-in-range : goal.returns-then-not-is-in-range
+pub returns-then-not-is_in_range : goal.returns-then-not-is_in_range
 unfolding range_checked
-returns-then-not-is-in-range c =
+returns-then-not-is_in_range c =
     let fits : SFits w32 c.get.result = search rules in
     let value = ap in_range (to_z-of_z w32 _ fits ∙ c.get.ensures (pos 0)) in
     ap Err c.at.ensures
     ∙ sym
     (checked_fail _ _ _ _ (wide_enough _ _ _ _ (sized_true _ _ _ _ c.requires)) _ _ (omega arith) (omega arith)
-    (sym value ∙ sym c.is-in-range.ensures ∙ c.if-not-is-in-range.true) c.loop-x.invariant)
+    (sym value ∙ sym c.is_in_range.ensures ∙ c.if-not-is_in_range.true) c.loop-x.invariant)
 
 pub loop-x-preserved : goal.loop-x-preserved
 loop-x-preserved c =
     let fits : SFits w32 c.get.result = search rules in
     let value = ap in_range (to_z-of_z w32 _ fits ∙ c.get.ensures (pos 0)) in
-    clear_more _ _ _ _ (sym value ∙ sym c.is-in-range.ensures ∙ c.if-not-is-in-range.false) c.loop-x.invariant
+    clear_more _ _ _ _ (sym value ∙ sym c.is_in_range.ensures ∙ c.if-not-is_in_range.false) c.loop-x.invariant
 
 pub returns : goal.returns
 unfolding range_checked

@@ -5,7 +5,7 @@ use Rattle.dct.specs.Transform.{dct_of, evens, odd_sums, joined, means, slopes, 
 use Rattle.floats.proofs.Powers.{pow_inj}
 use Rattle.dct.proofs.Halves.{Large, large, secants_length, apart, one_of, two_forward, two_inverse, four_of, from_forward, from_inverse}
 use Rattle.dct.proofs.dct.+dct.Goals as goal
-use Rattle.dct.proofs.dct.+dct.Goals.{in-Forward-direction, in-Inverse-direction, in-default-via-then-io-lt4, in-default-via-else-io-lt4+else-io-lt5}
+use Rattle.dct.proofs.dct.+dct.Goals.{in-Forward-direction, in-Inverse-direction, in_default-via-then-io-lt4, in_default-via-else-io-lt4+else-io-lt5}
 
 pub fold-requires : goal.fold-requires
 fold-requires t c =
@@ -14,7 +14,7 @@ fold-requires t c =
     record {
       whole = omega (arith, b.halves);
       halves = simp length-take (omega (arith, b.halves));
-      factors = ap length (c.sec-half-sec.ensures.table (suc (suc (suc b.j))) (omega arith) b.bound b.whole) ∙ secants_length b.j b.bound ∙ omega (arith, b.halves);
+      factors = ap length (c.sec_half-sec.ensures.table (suc (suc (suc b.j))) (omega arith) b.bound b.whole) ∙ secants_length b.j b.bound ∙ omega (arith, b.halves);
     }
 
 pub deal-requires : goal.deal-requires
@@ -29,8 +29,8 @@ dct-requires t c =
     let b = large n c.requires.sided (search rules) (search rules) (search rules) in
     (omega (arith, b.halves, pow_pos (suc (suc b.j))), ((suc (suc b.j), omega (arith, b.bound), omega (arith, b.halves)), omega (arith, b.halves)))
 
-pub dct-requires-in-default : goal.dct-requires-in-default
-dct-requires-in-default t c =
+pub dct-requires-in_default : goal.dct-requires-in_default
+dct-requires-in_default t c =
     let n = length c.args.io.now in
     let b = large n c.requires.sided (search rules) (search rules) (search rules) in
     (omega (arith, b.halves, pow_pos (suc (suc b.j))), ((suc (suc b.j), omega (arith, b.bound), omega (arith, b.halves)), omega (arith, b.halves)))
@@ -45,7 +45,7 @@ pub join-requires : goal.join-requires
 join-requires t c =
     let n = length c.args.io.now in
     let b = large n c.requires.sided (search rules) (search rules) (search rules) in
-    record { whole = omega (arith, b.halves); halves = omega (arith, b.halves); factors = ap length (c.sec-half-sec.ensures.table (suc (suc (suc b.j))) (omega arith) b.bound b.whole) ∙ secants_length b.j b.bound ∙ omega (arith, b.halves) }
+    record { whole = omega (arith, b.halves); halves = omega (arith, b.halves); factors = ap length (c.sec_half-sec.ensures.table (suc (suc (suc b.j))) (omega arith) b.bound b.whole) ∙ secants_length b.j b.bound ∙ omega (arith, b.halves) }
 
 pub returns-in-empty : goal.returns-in-empty
 returns-in-empty t c k e = one_of c.args.direction c.args.io.now k (search rules) e
@@ -57,14 +57,14 @@ pub returns-in-Inverse : goal.returns-in-Inverse
 returns-in-Inverse t c k e = two_inverse c.args.direction c.args.io.now k c.in-Inverse.is (search rules) e
 
 pub returns-in-len4 : goal.returns-in-len4
-returns-in-len4 t c k e = c.copy-from-slice.ensures.after ∙ c.dct4-out.ensures ∙ four_of c.args.direction c.args.io.now k (search rules) e
+returns-in-len4 t c k e = c.copy_from_slice.ensures.after ∙ c.dct4-out.ensures ∙ four_of c.args.direction c.args.io.now k (search rules) e
 
 pub returns-in-Forward-direction-2 : goal.returns-in-Forward-direction-2
 returns-in-Forward-direction-2 t c k e =
     let v = c.args.io.now in
     let d = c.args.direction in
-    let s = c.sec-half-sec.result.now in
-    let m = length c.split-at-mut-front.result.0.now in
+    let s = c.sec_half-sec.result.now in
+    let m = length c.split_at_mut-front.result.0.now in
     let b = large (length v) c.requires.sided (search rules) (search rules) (search rules) in
     let j = b.j in
     let f : c.match-direction-2.front ≡ means m v = elim c.match-direction-2.branch [
@@ -78,18 +78,18 @@ returns-in-Forward-direction-2 t c k e =
     let size : m ≡ 2 ^ suc (suc j) = omega (arith, b.halves) in
     let long : length c.dct.new.io ≡ m = omega arith in
     subst (λ (i : ℕ). c.weave.new.io ≡ dct_of d i v) (pow_inj (suc (suc (suc j))) k (sym b.whole ∙ e))
-    (from_forward j m d v s c.match-direction-2.front c.match-direction-2.back c.dct.new.io c.dct-in-default.new.io c.weave.new.io
-    size (c.sec-half-sec.ensures.table (suc (suc (suc j))) (omega arith) b.bound b.whole)
-    (c.dct.ensures (suc (suc j)) (omega (arith, b.halves))) (c.dct-in-default.ensures (suc (suc j)) (omega (arith, b.halves)))
+    (from_forward j m d v s c.match-direction-2.front c.match-direction-2.back c.dct.new.io c.dct-in_default.new.io c.weave.new.io
+    size (c.sec_half-sec.ensures.table (suc (suc (suc j))) (omega arith) b.bound b.whole)
+    (c.dct.ensures (suc (suc j)) (omega (arith, b.halves))) (c.dct-in_default.ensures (suc (suc j)) (omega (arith, b.halves)))
     c.in-Forward-direction-2.is f g
-    (subst (λ (x : ℕ). c.weave.new.io ≡ interleaved x c.dct.new.io c.dct-in-default.new.io) long c.weave.ensures))
+    (subst (λ (x : ℕ). c.weave.new.io ≡ interleaved x c.dct.new.io c.dct-in_default.new.io) long c.weave.ensures))
 
 pub returns-in-Inverse-direction-2 : goal.returns-in-Inverse-direction-2
 returns-in-Inverse-direction-2 t c k e =
     let v = c.args.io.now in
     let d = c.args.direction in
-    let s = c.sec-half-sec.result.now in
-    let m = length c.split-at-mut-front.result.0.now in
+    let s = c.sec_half-sec.result.now in
+    let m = length c.split_at_mut-front.result.0.now in
     let b = large (length v) c.requires.sided (search rules) (search rules) (search rules) in
     let j = b.j in
     let f : c.match-direction-2.front ≡ evens m v = elim c.match-direction-2.branch [
@@ -103,8 +103,8 @@ returns-in-Inverse-direction-2 t c k e =
     let size : m ≡ 2 ^ suc (suc j) = omega (arith, b.halves) in
     let long : length c.dct.new.io ≡ m = omega arith in
     subst (λ (i : ℕ). c.join.new.io ≡ dct_of d i v) (pow_inj (suc (suc (suc j))) k (sym b.whole ∙ e))
-    (from_inverse j m d v s c.match-direction-2.front c.match-direction-2.back c.dct.new.io c.dct-in-default.new.io c.join.new.io
-    size (c.sec-half-sec.ensures.table (suc (suc (suc j))) (omega arith) b.bound b.whole)
-    (c.dct.ensures (suc (suc j)) (omega (arith, b.halves))) (c.dct-in-default.ensures (suc (suc j)) (omega (arith, b.halves)))
+    (from_inverse j m d v s c.match-direction-2.front c.match-direction-2.back c.dct.new.io c.dct-in_default.new.io c.join.new.io
+    size (c.sec_half-sec.ensures.table (suc (suc (suc j))) (omega arith) b.bound b.whole)
+    (c.dct.ensures (suc (suc j)) (omega (arith, b.halves))) (c.dct-in_default.ensures (suc (suc j)) (omega (arith, b.halves)))
     c.in-Inverse-direction-2.is f g
-    (subst (λ (x : ℕ). c.join.new.io ≡ joined x s c.dct.new.io c.dct-in-default.new.io) long c.join.ensures))
+    (subst (λ (x : ℕ). c.join.new.io ≡ joined x s c.dct.new.io c.dct-in_default.new.io) long c.join.ensures))

@@ -11,8 +11,8 @@ loop-i-preserved c =
     let v = c.args.io.now in
     let i = c.loop-i.i in (
       fill_more (λ k. at v (2 * k)) c.loop-i.front i (at v (2 * i)) refl (omega arith) c.loop-i.invariant.0,
-      fill_more (odd_sum v) c.loop-i.back i c.odd-sum.result
-          (odd_sum_is v i c.odd-sum.result c.odd-sum.ensures.first c.odd-sum.ensures.later) (omega arith) c.loop-i.invariant.1,
+      fill_more (odd_sum v) c.loop-i.back i c.odd_sum.result
+          (odd_sum_is v i c.odd_sum.result c.odd_sum.ensures.first c.odd_sum.ensures.later) (omega arith) c.loop-i.invariant.1,
     )
 
 pub returns : goal.returns

@@ -40,8 +40,8 @@ none n (suc (suc (suc (suc (suc (suc (suc zero))))))) p1 p2 p4 p8 p16 p32 p64 p1
 none n (suc (suc (suc (suc (suc (suc (suc (suc zero)))))))) p1 p2 p4 p8 p16 p32 p64 p128 p256 l e = p256 e
 none n (suc (suc (suc (suc (suc (suc (suc (suc (suc a))))))))) p1 p2 p4 p8 p16 p32 p64 p128 p256 l e = omega arith
 
-pub returns-in-default : goal.returns-in-default
-returns-in-default c = (
+pub returns-in_default : goal.returns-in_default
+returns-in_default c = (
   (λ e. let z : ◌≡◌ {A = ℕ} 0 1 = cc in absurd (omega arith)),
   (λ w. absurd (none c.args.n w.0 (λ q. omega arith) (λ q. omega arith) (λ q. omega arith) (λ q. omega arith) (λ q. omega arith) (λ q. omega arith) (λ q. omega arith) (λ q. omega arith) (λ q. omega arith) w.1 w.2)),
 )

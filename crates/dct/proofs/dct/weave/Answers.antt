@@ -11,9 +11,9 @@ loop-i-preserved c =
     let i = c.loop-i.i in
     let f = at c.args.front.now in
     let g = gathered h o in
-    let e : c.odd-place.result ≡ gathered h o i = c.odd-place.ensures ∙ ap (λ (n : ℕ). gathered n o i) c.requires.halves in (
-      first_more (λ k. 2 * k) (λ k. 2 * k + 1) f g c.loop-i.io i (f i) c.odd-place.result refl e (omega arith) (omega arith) (λ k l. (omega arith, omega arith)) c.loop-i.invariant.0,
-      second_more (λ k. 2 * k) (λ k. 2 * k + 1) f g c.loop-i.io i (f i) c.odd-place.result refl e (omega arith) (λ k l. (omega arith, omega arith)) c.loop-i.invariant.1,
+    let e : c.odd_place.result ≡ gathered h o i = c.odd_place.ensures ∙ ap (λ (n : ℕ). gathered n o i) c.requires.halves in (
+      first_more (λ k. 2 * k) (λ k. 2 * k + 1) f g c.loop-i.io i (f i) c.odd_place.result refl e (omega arith) (omega arith) (λ k l. (omega arith, omega arith)) c.loop-i.invariant.0,
+      second_more (λ k. 2 * k) (λ k. 2 * k + 1) f g c.loop-i.io i (f i) c.odd_place.result refl e (omega arith) (λ k l. (omega arith, omega arith)) c.loop-i.invariant.1,
     )
 
 pub returns : goal.returns

@@ -12,7 +12,7 @@ returns-then-logb-ge6 c =
 pub returns-then-i-lt32 : goal.returns-then-i-lt32
 returns-then-i-lt32 c =
     record {
-      table = λ h. scale_found c.args.c c.args.logb c.scale-at.result c.if-c-ge32.false h c.scale-at.ensures;
+      table = λ h. scale_found c.args.c c.args.logb c.scale_at.result c.if-c-ge32.false h c.scale_at.ensures;
       none = λ h. absurd (omega arith);
     }
 

@@ -8,43 +8,43 @@ use Rattle.dct.proofs.Halves.{secants_length}
 use Rattle.dct.proofs.Lanes.{Halved, halved, idct_step}
 use Rattle.dct.proofs.strips.+inverse_strip.Goals as goal
 
-pub even-rows-requires : goal.even-rows-requires
-even-rows-requires t c =
+pub even_rows-requires : goal.even_rows-requires
+even_rows-requires t c =
     let b = halved c.args.n c.requires.sided (λ e. omega arith) in
     record { whole = omega (arith, b.twice); part = omega (arith, b.twice) }
 
-pub odd-rows-requires : goal.odd-rows-requires
-odd-rows-requires t c =
+pub odd_rows-requires : goal.odd_rows-requires
+odd_rows-requires t c =
     let b = halved c.args.n c.requires.sided (λ e. omega arith) in
     record { some = b.some; whole = omega (arith, b.twice); part = omega (arith, b.twice) }
 
-pub inverse-strip-requires : goal.inverse-strip-requires
-inverse-strip-requires t c =
+pub inverse_strip-requires : goal.inverse_strip-requires
+inverse_strip-requires t c =
     let b = halved c.args.n c.requires.sided (λ e. omega arith) in
     (omega (arith, b.twice, b.some), (b.long, (omega (arith, b.twice), omega (arith, b.twice))))
 
-pub inverse-strip-requires-2 : goal.inverse-strip-requires-2
-inverse-strip-requires-2 t c =
+pub inverse_strip-requires-2 : goal.inverse_strip-requires-2
+inverse_strip-requires-2 t c =
     let b = halved c.args.n c.requires.sided (λ e. omega arith) in
     (omega (arith, b.twice, b.some), (b.long, (omega (arith, b.twice), omega (arith, b.twice))))
 
-pub join-rows-requires : goal.join-rows-requires
-join-rows-requires t c =
+pub join_rows-requires : goal.join_rows-requires
+join_rows-requires t c =
     let b = halved c.args.n c.requires.sided (λ e. omega arith) in
     record {
       whole = omega (arith, b.twice);
       front = omega (arith, b.twice);
       back = omega (arith, b.twice);
-      factors = ap length (c.sec-half-sec.ensures.table (suc (suc (suc b.j))) (omega arith) b.bound b.whole) ∙ secants_length b.j b.bound ∙ sym b.half;
+      factors = ap length (c.sec_half-sec.ensures.table (suc (suc (suc b.j))) (omega arith) b.bound b.whole) ∙ secants_length b.j b.bound ∙ sym b.half;
     }
 
 pub returns-then-n-eq8 : goal.returns-then-n-eq8
 returns-then-n-eq8 t c k x e h =
     let v = c.args.strip.now in
-    let v₁ = c.inverse8-lines.new.strip in
+    let v₁ = c.inverse8_lines.new.strip in
     let n8 : 8 ≡ c.args.n = omega arith in
     ap (λ (n : ℕ). lanes n v₁ x) (sym n8)
-    ∙ c.inverse8-lines.ensures x h
+    ∙ c.inverse8_lines.ensures x h
     ∙ ap₂ (λ (i n : ℕ). idct i (lanes n v x)) (pow_inj 3 k (n8 ∙ e)) n8
 
 pub returns : goal.returns
@@ -54,17 +54,17 @@ returns t c k x e h =
     let m = n / 2 in
     let j = b.j in
     let v = c.args.strip.now in
-    let v₁ = c.join-rows.new.strip in
-    let front = c.even-rows.new.front in
-    let back = c.odd-rows.new.back in
-    let front₁ = c.inverse-strip.new.strip in
-    let back₁ = c.inverse-strip-2.new.strip in
+    let v₁ = c.join_rows.new.strip in
+    let front = c.even_rows.new.front in
+    let back = c.odd_rows.new.back in
+    let front₁ = c.inverse_strip.new.strip in
+    let back₁ = c.inverse_strip-2.new.strip in
     let step : lanes (m + m) v₁ x ≡ idct (suc (suc (suc j))) (lanes (m + m) v x) =
-    idct_step j m (lanes (m + m) v x) c.sec-half-sec.result.now (lanes m front x) (lanes m back x) (lanes m front₁ x) (lanes m back₁ x) (lanes (m + m) v₁ x)
-    b.half (c.sec-half-sec.ensures.table (suc (suc (suc j))) (omega arith) b.bound b.whole)
-    (c.even-rows.ensures x h) (c.odd-rows.ensures x h)
-    (c.inverse-strip.ensures (suc (suc j)) x b.half h) (c.inverse-strip-2.ensures (suc (suc j)) x b.half h)
-    (c.join-rows.ensures x h) in
+    idct_step j m (lanes (m + m) v x) c.sec_half-sec.result.now (lanes m front x) (lanes m back x) (lanes m front₁ x) (lanes m back₁ x) (lanes (m + m) v₁ x)
+    b.half (c.sec_half-sec.ensures.table (suc (suc (suc j))) (omega arith) b.bound b.whole)
+    (c.even_rows.ensures x h) (c.odd_rows.ensures x h)
+    (c.inverse_strip.ensures (suc (suc j)) x b.half h) (c.inverse_strip-2.ensures (suc (suc j)) x b.half h)
+    (c.join_rows.ensures x h) in
     ap (λ (i : ℕ). lanes i v₁ x) b.twice
     ∙ step
     ∙ ap₂ (λ (i l : ℕ). idct i (lanes l v x)) (pow_inj (suc (suc (suc j))) k (sym b.whole ∙ e)) (sym b.twice)

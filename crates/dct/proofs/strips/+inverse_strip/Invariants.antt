@@ -1,5 +1,5 @@
 -- Each call is at half the length.
 use Rattle.dct.proofs.strips.+inverse_strip.Given as goal
 
-abbrev pub decreases-inverse-strip : goal.decreases-inverse-strip
-decreases-inverse-strip l = l.n
+abbrev pub decreases-inverse_strip : goal.decreases-inverse_strip
+decreases-inverse_strip l = l.n

@@ -9,8 +9,8 @@ loop-i-init c x k hx hk = absurd (omega arith)
 
 pub loop-i-preserved : goal.loop-i-preserved
 loop-i-preserved c =
-    rows_more (λ x k. lane c.args.strip.now x (2 * k)) (at c.row-at.result) c.loop-i.i c.loop-i.front c.put-row.new.strip
-    c.put-row.ensures c.row-at.ensures c.loop-i.invariant
+    rows_more (λ x k. lane c.args.strip.now x (2 * k)) (at c.row_at.result) c.loop-i.i c.loop-i.front c.put_row.new.strip
+    c.put_row.ensures c.row_at.ensures c.loop-i.invariant
 
 pub returns : goal.returns
 returns c x h = evens_from c.args.half c.args.strip.now c.loop-i.front x (λ k l. c.loop-i.invariant x k h (omega arith))

@@ -7,5 +7,5 @@ use Rattle.dct.proofs.strips.first_odd_row.Goals as goal
 
 pub returns : goal.returns
 returns c x h =
-    scaled_at c.row-at.result c.scaled-row.result root_two x h c.scaled-row.ensures
-    ∙ ap (λ (t : Float). times t root_two) (c.row-at.ensures x h)
+    scaled_at c.row_at.result c.scaled_row.result root_two x h c.scaled_row.ensures
+    ∙ ap (λ (t : Float). times t root_two) (c.row_at.ensures x h)

@@ -14,10 +14,10 @@ loop-x-preserved c =
     let v₁ = c.loop-x.strip in
     let x = c.loop-x.x in
     let r = c.inverse8-numbers.result in (
-      lines_done 8 (λ y. at (idct 3 (lanes 8 v y))) x (at r) v₁ c.put-line.new.strip
+      lines_done 8 (λ y. at (idct 3 (lanes 8 v y))) x (at r) v₁ c.put_line.new.strip
           (λ k h. ap (λ (u : List Float). at u k) (c.inverse8-numbers.ensures ∙ ap (idct 3) (maps_same (lane v₁ x) (lane v x) 8 (λ q m. c.loop-x.invariant.1 x q (omega arith) (omega arith)))))
-          c.put-line.ensures (omega arith) c.loop-x.invariant.0,
-      lines_kept x (at r) v v₁ c.put-line.new.strip c.put-line.ensures c.loop-x.invariant.1,
+          c.put_line.ensures (omega arith) c.loop-x.invariant.0,
+      lines_kept x (at r) v v₁ c.put_line.new.strip c.put_line.ensures c.loop-x.invariant.1,
     )
 
 pub returns : goal.returns

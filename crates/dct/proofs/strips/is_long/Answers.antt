@@ -4,8 +4,8 @@ use Rattle.dct.proofs.strips.is_long.Goals as goal
 
 pub returns : goal.returns
 returns c = (
-  (λ e. let s = c.is-side.ensures.0 e in long_from c.args.n s.0 s.1 s.2 (omega arith)),
-  (λ l. c.is-side.ensures.1 (l.0, l.2, l.3)),
+  (λ e. let s = c.is_side.ensures.0 e in long_from c.args.n s.0 s.1 s.2 (omega arith)),
+  (λ l. c.is_side.ensures.1 (l.0, l.2, l.3)),
 )
 
 pub returns-then-n-lt8 : goal.returns-then-n-lt8

@@ -11,8 +11,8 @@ loop-i-preserved c =
     let s = c.args.sec.now in
     let e = c.args.front.now in
     let o = c.args.back.now in (
-      sums_more h s e o c.loop-i.i c.loop-i.strip c.join-row.new.strip (omega arith) c.join-row.ensures c.loop-i.invariant.0,
-      differences_more h s e o c.loop-i.i c.loop-i.strip c.join-row.new.strip (omega arith) c.join-row.ensures c.loop-i.invariant.1,
+      sums_more h s e o c.loop-i.i c.loop-i.strip c.join_row.new.strip (omega arith) c.join_row.ensures c.loop-i.invariant.0,
+      differences_more h s e o c.loop-i.i c.loop-i.strip c.join_row.new.strip (omega arith) c.join_row.ensures c.loop-i.invariant.1,
     )
 
 pub returns : goal.returns

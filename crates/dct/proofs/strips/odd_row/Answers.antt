@@ -5,6 +5,6 @@ use Rattle.dct.proofs.strips.odd_row.Goals as goal
 
 pub returns : goal.returns
 returns c x h =
-    sums_at c.row-at.result c.row-at-2.result c.sum-rows.result x h c.sum-rows.ensures
-    ∙ ap₂ plus (c.row-at.ensures x h) (c.row-at-2.ensures x h)
+    sums_at c.row_at.result c.row_at-2.result c.sum_rows.result x h c.sum_rows.ensures
+    ∙ ap₂ plus (c.row_at.ensures x h) (c.row_at-2.ensures x h)
     ∙ odd_lane_later c.args.strip.now x c.args.i c.requires.later

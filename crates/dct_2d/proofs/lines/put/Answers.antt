@@ -7,8 +7,8 @@ offset-requires c =
     let b = index_below _ _ c.args.x c.args.y c.requires.lawful c.requires.inside in
     record { inside = c.requires.inside; fits = search rules }
 
-pub offset-bounds-list-offset : goal.offset-bounds-list-offset
-offset-bounds-list-offset c =
+pub offset_bounds-list-offset : goal.offset_bounds-list-offset
+offset_bounds-list-offset c =
     let b = index_below _ _ c.args.x c.args.y c.requires.lawful c.requires.inside in
     search rules
 

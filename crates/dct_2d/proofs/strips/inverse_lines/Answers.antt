@@ -47,7 +47,7 @@ loop-i-preserved c k e =
     let n = c.length-n.result in
     let p : Patch = lined Inverse ax k (elements s xs) in
     let r = c.load.new.strip in
-    let r' = c.inverse-eight.new.strip in
+    let r' = c.inverse_eight.new.strip in
     let en : n ≡ back ax s.width s.height = c.length-n.ensures in
     let hi : i * 8 + 8 ≤ fore ax s.width s.height = omega arith in
     let three = long_least (back ax s.width s.height) k c.requires.sided e in
@@ -57,7 +57,7 @@ loop-i-preserved c k e =
     ∙ strip_lined s ax (i * 8) r' xs c.requires.lawful p
     (strip_made s ax k (i * 8) n xs r r' c.requires.lawful hi en (en ∙ e) (omega arith)
     (λ x j hx hj. c.load.ensures x j hx hj ∙ ap (λ (v : List Float). read_line s ax (i * 8 + x) v j) (c.loop-i.invariant k e))
-    (λ x hx. c.inverse-eight.ensures.works k x (record { long = subst Long (sym en) c.requires.sided; whole = omega arith; room = omega arith }) (en ∙ e) hx))
+    (λ x hx. c.inverse_eight.ensures.works k x (record { long = subst Long (sym en) c.requires.sided; whole = omega arith; room = omega arith }) (en ∙ e) hx))
     ∙ ap (λ (m : ℕ). painted s (lined_to ax m p) xs) next
 
 pub returns : goal.returns

@@ -13,8 +13,8 @@ loop-i-preserved c =
     let i = c.loop-i.i in
     let f = read_line c.args.shape Rows c.args.y c.args.list.now in
     let z : i * 8 + 8 ≡ (i + 1) * 8 = omega arith in
-    subst (λ (n : ℕ). Laned c.args.x n f c.args.strip.now c.put-part.new.strip) z
-    (c.put-part.ensures f c.args.strip.now c.eight-at.ensures c.loop-i.invariant)
+    subst (λ (n : ℕ). Laned c.args.x n f c.args.strip.now c.put_part.new.strip) z
+    (c.put_part.ensures f c.args.strip.now c.eight_at.ensures c.loop-i.invariant)
 
 pub returns : goal.returns
 returns c =

@@ -12,8 +12,8 @@ loop-x-preserved c =
     let s = c.args.shape in
     let xs = c.args.list.now in
     let x = c.loop-x.x in
-    lines_done s.width (λ z. read_line s Rows (c.args.y + z) xs) x (read_line s Rows (c.args.y + x) xs) c.loop-x.strip c.load-line.new.strip
-    (λ k h. refl) c.load-line.ensures (omega arith) c.loop-x.invariant
+    lines_done s.width (λ z. read_line s Rows (c.args.y + z) xs) x (read_line s Rows (c.args.y + x) xs) c.loop-x.strip c.load_line.new.strip
+    (λ k h. refl) c.load_line.ensures (omega arith) c.loop-x.invariant
 
 pub returns : goal.returns
 returns c x k hx hk = c.loop-x.invariant x k (omega arith) hk

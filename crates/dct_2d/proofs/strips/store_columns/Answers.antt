@@ -10,8 +10,8 @@ use Rattle.dct.proofs.Lanes.{row_literal}
 use Rattle.dct_2d.proofs.Stores.{strip_none, strip_more}
 use Rattle.dct_2d.proofs.strips.store_columns.Goals as goal
 
-pub put-eight-requires : goal.put-eight-requires
-put-eight-requires c =
+pub put_eight-requires : goal.put_eight-requires
+put_eight-requires c =
     let s = c.args.shape in
     record {
       lawful = subst (Lawful s) (sym (ap length c.loop-k.invariant ∙ length_painted s (strip_drawn Columns c.args.x 8 c.loop-k.k c.args.strip.now) c.args.list.now)) c.requires.lawful;
@@ -29,7 +29,7 @@ loop-k-preserved c =
     let k = c.loop-k.k in
     let v = c.args.strip.now in
     let r = at v (k * 8) ∷ at v (k * 8 + 1) ∷ at v (k * 8 + 2) ∷ at v (k * 8 + 3) ∷ at v (k * 8 + 4) ∷ at v (k * 8 + 5) ∷ at v (k * 8 + 6) ∷ at v (k * 8 + 7) ∷ [] in
-    c.put-eight.ensures
+    c.put_eight.ensures
     ∙ ap (λ (xs : List Float). painted s (eight_drawn x k 8 r) xs) c.loop-k.invariant
     ∙ strip_more s x v c.args.list.now c.requires.lawful k r (row_literal v k)
 

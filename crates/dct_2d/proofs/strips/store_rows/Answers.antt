@@ -10,8 +10,8 @@ use Rattle.dct_2d.specs.Drawn.{strip_drawn}
 use Rattle.dct_2d.proofs.Stores.{lines_none, lines_more}
 use Rattle.dct_2d.proofs.strips.store_rows.Goals as goal
 
-pub store-line-requires : goal.store-line-requires
-store-line-requires c =
+pub store_line-requires : goal.store_line-requires
+store_line-requires c =
     let s = c.args.shape in
     record {
       lawful = subst (Lawful s) (sym (ap length c.loop-x.invariant ∙ length_painted s (strip_drawn Rows c.args.y c.loop-x.x s.width c.args.strip.now) c.args.list.now)) c.requires.lawful;
@@ -30,7 +30,7 @@ loop-x-preserved c =
     let y = c.args.y in
     let m = c.loop-x.x in
     let v = c.args.strip.now in
-    c.store-line.ensures
+    c.store_line.ensures
     ∙ ap (λ (xs : List Float). painted s (drawn Rows (y + m) s.width (lanes s.width v m)) xs) c.loop-x.invariant
     ∙ lines_more s y s.width v c.args.list.now c.requires.lawful m
 

@@ -9,16 +9,16 @@ use Rattle.frame.proofs.placing.check_free.Goals as goal
 pub loop-i-preserved : goal.loop-i-preserved
 loop-i-preserved c =
     clear_more _ _ _ _
-    (ap (λ (v : Cell). is_empty v.holds) (sym (c.get.ensures (cell Empty))) ∙ sym c.is-empty.ensures ∙ c.if-not-is-empty.false)
+    (ap (λ (v : Cell). is_empty v.holds) (sym (c.get.ensures (cell Empty))) ∙ sym c.is_empty.ensures ∙ c.if-not-is_empty.false)
     c.loop-i.invariant
 
-pub returns-then-not-is-empty : goal.returns-then-not-is-empty
+pub returns-then-not-is_empty : goal.returns-then-not-is_empty
 unfolding free_checked
-returns-then-not-is-empty c =
+returns-then-not-is_empty c =
     ap Err c.at.ensures
     ∙ sym
     (checked_fail _ _ _ _ c.requires.wide c.loop-i.i c.loop-j.j (omega arith) (omega arith)
-    (ap (λ (v : Cell). is_empty v.holds) (sym (c.get.ensures (cell Empty))) ∙ sym c.is-empty.ensures ∙ c.if-not-is-empty.true)
+    (ap (λ (v : Cell). is_empty v.holds) (sym (c.get.ensures (cell Empty))) ∙ sym c.is_empty.ensures ∙ c.if-not-is_empty.true)
     c.loop-i.invariant)
 
 pub returns : goal.returns

@@ -5,8 +5,8 @@ use Rattle.weights.specs.Weights.{tables}
 use Rattle.hf.proofs.Accepted.{answered, accepted}
 use Rattle.hf.proofs.dequantise.hf_dequantise.Goals as goal
 
-pub write-channel-requires : goal.write-channel-requires
-write-channel-requires c =
+pub write_channel-requires : goal.write_channel-requires
+write_channel-requires c =
     let f = c.args.frame.now in
     let n = c.args.coefficients in
     let map = viewed c.args.map in
@@ -14,13 +14,13 @@ write-channel-requires c =
     let ns = planes (viewed n.x) (viewed n.y) (viewed n.b) in
     let t = tables c.args.weights in
     let told =
-    answered f.w8 f.h8 c.w8.result c.h8.result f.stage c.samples-fit-fit.result p map ns t c.args.by c.judge-answer.result
-    c.w8.ensures c.h8.ensures c.samples-fit-fit.ensures c.judge-answer.ensures in
+    answered f.w8 f.h8 c.w8.result c.h8.result f.stage c.samples_fit-fit.result p map ns t c.args.by c.judge-answer.result
+    c.w8.ensures c.h8.ensures c.samples_fit-fit.ensures c.judge-answer.ensures in
     let ok : is_err c.judge-answer.result ≡ false = search rules in
     (accepted f.w8 f.h8 f.stage p map ns t c.args.by c.judge-answer.result told ok).0
 
-pub write-channel-requires-2 : goal.write-channel-requires-2
-write-channel-requires-2 c =
+pub write_channel-requires-2 : goal.write_channel-requires-2
+write_channel-requires-2 c =
     let f = c.args.frame.now in
     let n = c.args.coefficients in
     let map = viewed c.args.map in
@@ -28,13 +28,13 @@ write-channel-requires-2 c =
     let ns = planes (viewed n.x) (viewed n.y) (viewed n.b) in
     let t = tables c.args.weights in
     let told =
-    answered f.w8 f.h8 c.w8.result c.h8.result f.stage c.samples-fit-fit.result p map ns t c.args.by c.judge-answer.result
-    c.w8.ensures c.h8.ensures c.samples-fit-fit.ensures c.judge-answer.ensures in
+    answered f.w8 f.h8 c.w8.result c.h8.result f.stage c.samples_fit-fit.result p map ns t c.args.by c.judge-answer.result
+    c.w8.ensures c.h8.ensures c.samples_fit-fit.ensures c.judge-answer.ensures in
     let ok : is_err c.judge-answer.result ≡ false = search rules in
     (accepted f.w8 f.h8 f.stage p map ns t c.args.by c.judge-answer.result told ok).1
 
-pub write-channel-requires-3 : goal.write-channel-requires-3
-write-channel-requires-3 c =
+pub write_channel-requires-3 : goal.write_channel-requires-3
+write_channel-requires-3 c =
     let f = c.args.frame.now in
     let n = c.args.coefficients in
     let map = viewed c.args.map in
@@ -42,8 +42,8 @@ write-channel-requires-3 c =
     let ns = planes (viewed n.x) (viewed n.y) (viewed n.b) in
     let t = tables c.args.weights in
     let told =
-    answered f.w8 f.h8 c.w8.result c.h8.result f.stage c.samples-fit-fit.result p map ns t c.args.by c.judge-answer.result
-    c.w8.ensures c.h8.ensures c.samples-fit-fit.ensures c.judge-answer.ensures in
+    answered f.w8 f.h8 c.w8.result c.h8.result f.stage c.samples_fit-fit.result p map ns t c.args.by c.judge-answer.result
+    c.w8.ensures c.h8.ensures c.samples_fit-fit.ensures c.judge-answer.ensures in
     let ok : is_err c.judge-answer.result ≡ false = search rules in
     (accepted f.w8 f.h8 f.stage p map ns t c.args.by c.judge-answer.result told ok).2
 
@@ -56,6 +56,6 @@ returns c =
     let ns = planes (viewed n.x) (viewed n.y) (viewed n.b) in
     let t = tables c.args.weights in
     let told =
-    answered f.w8 f.h8 c.w8.result c.h8.result f.stage c.samples-fit-fit.result p map ns t c.args.by c.judge-answer.result
-    c.w8.ensures c.h8.ensures c.samples-fit-fit.ensures c.judge-answer.ensures in
+    answered f.w8 f.h8 c.w8.result c.h8.result f.stage c.samples_fit-fit.result p map ns t c.args.by c.judge-answer.result
+    c.w8.ensures c.h8.ensures c.samples_fit-fit.ensures c.judge-answer.ensures in
     record { answer = told; stage = search rules; x = search rules; y = search rules; b = search rules }

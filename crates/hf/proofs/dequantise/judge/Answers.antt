@@ -8,16 +8,16 @@ use Rattle.weights.specs.Weights.{tables}
 use Rattle.hf.proofs.Accepted.{shapes_by}
 use Rattle.hf.proofs.dequantise.judge.Goals as goal
 
-pub judge-weights-requires : goal.judge-weights-requires
-judge-weights-requires c =
+pub judge_weights-requires : goal.judge_weights-requires
+judge_weights-requires c =
     let n = c.args.coefficients in
     let s =
     shapes_by c.w8-w8.result c.h8-h8.result c.args.fit (viewed c.args.map) (planes (viewed n.x) (viewed n.y) (viewed n.b))
-    (tables c.args.weights) c.fits.result c.numbers-fit.result c.have-starts.result c.fits.ensures c.numbers-fit.ensures
-    c.have-starts.ensures (demand_ok _ _ (sym c.in-ok-require-2.ensures)) in
+    (tables c.args.weights) c.fits.result c.numbers_fit.result c.have_starts.result c.fits.ensures c.numbers_fit.ensures
+    c.have_starts.ensures (demand_ok _ _ (sym c.in_ok-require-2.ensures)) in
     record {
       map = s.sized;
-      cells = passed_lawful _ _ _ (wide_enough _ _ _ _ (sized_true _ _ _ _ s.sized)) (sym c.in-ok-check-map.ensures);
+      cells = passed_lawful _ _ _ (wide_enough _ _ _ _ (sized_true _ _ _ _ s.sized)) (sym c.in_ok-check_map.ensures);
       x = s.x;
       y = s.y;
       b = s.b;

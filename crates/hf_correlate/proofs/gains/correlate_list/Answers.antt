@@ -8,8 +8,8 @@ use Rattle.hf_correlate.proofs.gains.correlate_list.Goals as goal
 pub loop-ty-init : goal.loop-ty-init
 loop-ty-init c = upto_none c.args.shape (viewed c.args.luma) (viewed c.args.gains.tiles) _ _ c.args.list.now c.requires.lawful
 
-pub tile-area-area-requires : goal.tile-area-area-requires
-tile-area-area-requires c =
+pub tile_area-area-requires : goal.tile_area-area-requires
+tile_area-area-requires c =
     record {
       across = omega (arith, begins _ _ _ c.requires.across c.loop-tx-test.true);
       down = omega (arith, begins _ _ _ c.requires.down c.loop-ty-test.true);
@@ -27,10 +27,10 @@ at-requires c =
 pub paint-requires : goal.paint-requires
 paint-requires c =
     let across =
-    area_across c.args.shape _ _ c.tile-area-area.result c.tile-area-area.ensures
+    area_across c.args.shape _ _ c.tile_area-area.result c.tile_area-area.ensures
     (omega (arith, begins _ _ _ c.requires.across c.loop-tx-test.true)) in
     let down =
-    area_down c.args.shape _ _ c.tile-area-area.result c.tile-area-area.ensures
+    area_down c.args.shape _ _ c.tile_area-area.result c.tile_area-area.ensures
     (omega (arith, begins _ _ _ c.requires.down c.loop-ty-test.true)) in
     record {
       lawful = subst (Lawful c.args.shape) (sym (c.loop-tx.auto.list ∙ c.loop-ty.auto.list)) c.requires.lawful;
@@ -50,8 +50,8 @@ loop-tx-preserved c xs h =
     let base = c.args.gains.base in
     let colour = c.args.gains.colour_factor in
     let lawful = lawful_before s _ (upto s luma tiles base colour 0 c.loop-ty.ty) xs c.loop-ty.list c.requires.lawful c.loop-ty.auto.list h in
-    tile_done s luma tiles base colour xs lawful c.loop-tx.tx c.loop-ty.ty c.at.result c.tile-area-area.result c.loop-tx.list
-    c.paint.new.list c.tile-area-area.ensures c.at.ensures (c.loop-tx.invariant xs h) c.paint.ensures
+    tile_done s luma tiles base colour xs lawful c.loop-tx.tx c.loop-ty.ty c.at.result c.tile_area-area.result c.loop-tx.list
+    c.paint.new.list c.tile_area-area.ensures c.at.ensures (c.loop-tx.invariant xs h) c.paint.ensures
 
 pub loop-ty-preserved : goal.loop-ty-preserved
 loop-ty-preserved c =

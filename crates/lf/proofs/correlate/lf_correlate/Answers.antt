@@ -6,16 +6,16 @@ use Rattle.channels.proofs.Fitting.{fits_lawful}
 use Rattle.lf.proofs.Correlating.{accepted, can_correlate}
 use Rattle.lf.proofs.correlate.lf_correlate.Goals as goal
 
-pub paint-all-requires : goal.paint-all-requires
-paint-all-requires c =
+pub paint_all-requires : goal.paint_all-requires
+paint_all-requires c =
     let f = c.args.frame.now in
     let lf = planes (lent c.args.x.now) (viewed c.args.y) (lent c.args.b.now) in
     let e : is_err (lf_correlate_answer f.w8 f.h8 f.stage lf c.args.by) ≡ false = search rules in
     let found = accepted f.w8 f.h8 f.stage lf c.args.by e in
     record { lawful = fits_lawful _ _ _ found.0; can = can_correlate _ _ _ _ found.0 found.1 }
 
-pub paint-all-requires-2 : goal.paint-all-requires-2
-paint-all-requires-2 c =
+pub paint_all-requires-2 : goal.paint_all-requires-2
+paint_all-requires-2 c =
     let f = c.args.frame.now in
     let lf = planes (lent c.args.x.now) (viewed c.args.y) (lent c.args.b.now) in
     let e : is_err (lf_correlate_answer f.w8 f.h8 f.stage lf c.args.by) ≡ false = search rules in

@@ -6,8 +6,8 @@ use Rattle.channels.proofs.Fitting.{fits_lawful}
 use Rattle.lf.proofs.Dequantising.{accepted, can_dequantise}
 use Rattle.lf.proofs.dequantise.lf_dequantise.Goals as goal
 
-pub paint-all-requires : goal.paint-all-requires
-paint-all-requires c =
+pub paint_all-requires : goal.paint_all-requires
+paint_all-requires c =
     let f = c.args.frame.now in
     let lf = planes (lent c.args.x.now) (lent c.args.y.now) (lent c.args.b.now) in
     let numbers = planes (viewed c.args.numbers.x) (viewed c.args.numbers.y) (viewed c.args.numbers.b) in
@@ -15,8 +15,8 @@ paint-all-requires c =
     let found = (accepted f.w8 f.h8 f.stage lf numbers c.args.scales e).0 in
     record { lawful = fits_lawful _ _ _ found.samples; can = can_dequantise _ _ _ _ found }
 
-pub paint-all-requires-2 : goal.paint-all-requires-2
-paint-all-requires-2 c =
+pub paint_all-requires-2 : goal.paint_all-requires-2
+paint_all-requires-2 c =
     let f = c.args.frame.now in
     let lf = planes (lent c.args.x.now) (lent c.args.y.now) (lent c.args.b.now) in
     let numbers = planes (viewed c.args.numbers.x) (viewed c.args.numbers.y) (viewed c.args.numbers.b) in
@@ -24,8 +24,8 @@ paint-all-requires-2 c =
     let found = (accepted f.w8 f.h8 f.stage lf numbers c.args.scales e).1 in
     record { lawful = fits_lawful _ _ _ found.samples; can = can_dequantise _ _ _ _ found }
 
-pub paint-all-requires-3 : goal.paint-all-requires-3
-paint-all-requires-3 c =
+pub paint_all-requires-3 : goal.paint_all-requires-3
+paint_all-requires-3 c =
     let f = c.args.frame.now in
     let lf = planes (lent c.args.x.now) (lent c.args.y.now) (lent c.args.b.now) in
     let numbers = planes (viewed c.args.numbers.x) (viewed c.args.numbers.y) (viewed c.args.numbers.b) in

@@ -18,7 +18,7 @@ paint-requires c =
     let s = c.dense-dense.result in
     let z = sides w h (lent g) c.inner.result c.requires.fits c.inner.ensures in
     let k = sized_true w h _ _ c.requires.fits in
-    let fc = dense_like w h (lent g) s c.args.changes.now e c.requires.fits c.requires.long-changes in
+    let fc = dense_like w h (lent g) s c.args.changes.now e c.requires.fits c.requires.long_changes in
     let fs = dense_like w h (lent g) s c.args.shares.now e c.requires.fits c.requires.long_shares in
     record {
       lawful = fits_lawful w h (lent g) c.requires.fits;

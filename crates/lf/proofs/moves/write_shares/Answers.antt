@@ -19,8 +19,8 @@ paint-requires c =
     let z = sides w h (lent g) c.inner.result c.requires.fits c.inner.ensures in
     let same = viewed_lent c.view.result g c.view.ensures.list c.view.ensures.shape in
     let f = ap (fitting w h) same ∙ c.requires.fits in
-    let fx = dense_like w h (lent g) s c.args.changes-x.now e c.requires.fits c.requires.long-x in
-    let fy = dense_like w h (lent g) s c.args.changes-y.now e c.requires.fits c.requires.long-y in
+    let fx = dense_like w h (lent g) s c.args.changes_x.now e c.requires.fits c.requires.long_x in
+    let fy = dense_like w h (lent g) s c.args.changes_y.now e c.requires.fits c.requires.long_y in
     let fs = dense_like w h (lent g) s c.args.shares.now e c.requires.fits c.requires.room in
     record {
       lawful = fits_lawful w h _ fs;
@@ -42,8 +42,8 @@ returns c x y hx hy =
     let a = c.inner.result in
     let old = c.args.shares.now in
     let e = c.dense-dense.ensures in
-    let cx = dense_plane w h c.args.changes-x.now in
-    let cy = dense_plane w h c.args.changes-y.now in
+    let cx = dense_plane w h c.args.changes_x.now in
+    let cy = dense_plane w h c.args.changes_y.now in
     let same = viewed_lent c.view.result g c.view.ensures.list c.view.ensures.shape in
     let painting =
     c.paint.ensures
@@ -51,7 +51,7 @@ returns c x y hx hy =
     (λ (s : Shape).
     painted s
     (patch a.x a.y a.width a.height
-    (shifted (fresh (shared c.args.steps (record { shape = s; list = c.args.changes-x.now }) (record { shape = s; list = c.args.changes-y.now }) (viewed c.view.result)))))
+    (shifted (fresh (shared c.args.steps (record { shape = s; list = c.args.changes_x.now }) (record { shape = s; list = c.args.changes_y.now }) (viewed c.view.result)))))
     old)
     e
     ∙ ap

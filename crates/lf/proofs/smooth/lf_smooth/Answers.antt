@@ -5,8 +5,8 @@ use Rattle.lf.specs.Smooth.{lf_smooth_answer}
 use Rattle.lf.proofs.Smoothing.{accepted}
 use Rattle.lf.proofs.smooth.lf_smooth.Goals as goal
 
-pub smooth-all-requires : goal.smooth-all-requires
-smooth-all-requires c =
+pub smooth_all-requires : goal.smooth_all-requires
+smooth_all-requires c =
     let w = c.w8-w8.result in
     let h = c.h8-h8.result in
     let st = c.args.frame.now.stage in

@@ -23,6 +23,6 @@ pub returns-in-32 : goal.returns-in-32
 unfolding log2
 returns-in-32 c = record { value = ap log2 (sym c.in-32.is); bound = lit≤ tt }
 
-pub returns-in-default : goal.returns-in-default
+pub returns-in_default : goal.returns-in_default
 unfolding log2
-returns-in-default c = record { value = grind (arith, nat_tests); bound = lit≤ tt }
+returns-in_default c = record { value = grind (arith, nat_tests); bound = lit≤ tt }

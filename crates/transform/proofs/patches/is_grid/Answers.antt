@@ -7,4 +7,4 @@ pub returns : goal.returns
 unfolding sized
 returns c =
     ap (λ (b : Bool). (eqb c.args.shape.width c.args.w && eqb c.args.shape.height c.args.h) && b)
-    (is_lawful c.args.shape _ c.is-lawful-lawful.result c.is-lawful-lawful.ensures)
+    (is_lawful c.args.shape _ c.is_lawful-lawful.result c.is_lawful-lawful.ensures)

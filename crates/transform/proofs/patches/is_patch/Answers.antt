@@ -5,6 +5,6 @@ use Rattle.transform.proofs.patches.is_patch.Goals as goal
 
 pub returns : goal.returns
 returns c =
-    ap (λ (b : Bool). (b && (c.is-side.result && c.is-side-2.result)) && leb 512 c.args.room)
-    (is_lawful c.args.shape _ c.is-lawful-lawful.result c.is-lawful-lawful.ensures)
-    ∙ ap₂ (λ (a b : Bool). (lawful c.args.shape c.args.len && (a && b)) && leb 512 c.args.room) c.is-side.ensures c.is-side-2.ensures
+    ap (λ (b : Bool). (b && (c.is_side.result && c.is_side-2.result)) && leb 512 c.args.room)
+    (is_lawful c.args.shape _ c.is_lawful-lawful.result c.is_lawful-lawful.ensures)
+    ∙ ap₂ (λ (a b : Bool). (lawful c.args.shape c.args.len && (a && b)) && leb 512 c.args.room) c.is_side.ensures c.is_side-2.ensures

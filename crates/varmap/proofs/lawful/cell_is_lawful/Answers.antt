@@ -14,13 +14,13 @@ returns-in-Empty c =
 pub returns-in-Lead : goal.returns-in-Lead
 unfolding cell_ok
 returns-in-Lead c =
-    c.lead-is-lawful.ensures
+    c.lead_is_lawful.ensures
     ∙ ap (cell_as c.args.map.shape.width c.args.map.shape.height (cells c.args.map.shape c.args.map.list.now) c.args.x c.args.y)
     (sym c.in-Lead.is ∙ ap (λ (v : Cell). v.holds) (c.get.ensures (cell Empty)))
 
 pub returns-in-Covered : goal.returns-in-Covered
 unfolding cell_ok
 returns-in-Covered c =
-    c.covered-is-lawful.ensures
+    c.covered_is_lawful.ensures
     ∙ ap (cell_as c.args.map.shape.width c.args.map.shape.height (cells c.args.map.shape c.args.map.list.now) c.args.x c.args.y)
     (sym c.in-Covered.is ∙ ap (λ (v : Cell). v.holds) (c.get.ensures (cell Empty)))

@@ -6,8 +6,8 @@ use Rattle.refusal.proofs.Checked.{clear_more, clear_all, checked_pass, checked_
 use Rattle.grid.proofs.Sized.{wide_enough}
 use Rattle.varmap.proofs.lawful.check_map.Goals as goal
 
-pub cell-is-lawful-requires : goal.cell-is-lawful-requires
-cell-is-lawful-requires c =
+pub cell_is_lawful-requires : goal.cell_is_lawful-requires
+cell_is_lawful-requires c =
     let z = sized_true _ _ _ _ c.requires in
     record { lawful = z.lawful; inside = record { across = omega (arith, z.width); down = omega (arith, z.height) } }
 
@@ -18,13 +18,13 @@ loop-x-preserved c =
     clear_more _ _ _ _
     (ap (λ w. cell_ok w c.args.h m c.loop-x.x c.loop-y.y) (sym z.width)
     ∙ ap (λ h. cell_ok c.args.map.shape.width h m c.loop-x.x c.loop-y.y) (sym z.height)
-    ∙ sym c.cell-is-lawful.ensures
-    ∙ c.if-not-cell-is-lawful.false)
+    ∙ sym c.cell_is_lawful.ensures
+    ∙ c.if-not-cell_is_lawful.false)
     c.loop-x.invariant
 
-pub returns-then-not-cell-is-lawful : goal.returns-then-not-cell-is-lawful
+pub returns-then-not-cell_is_lawful : goal.returns-then-not-cell_is_lawful
 unfolding map_checked
-returns-then-not-cell-is-lawful c =
+returns-then-not-cell_is_lawful c =
     let z = sized_true _ _ _ _ c.requires in
     let m = cells c.args.map.shape c.args.map.list.now in
     ap Err c.at.ensures
@@ -32,8 +32,8 @@ returns-then-not-cell-is-lawful c =
     (checked_fail _ _ _ _ (wide_enough _ _ _ _ z) c.loop-x.x c.loop-y.y (omega arith) (omega arith)
     (ap (λ w. cell_ok w c.args.h m c.loop-x.x c.loop-y.y) (sym z.width)
     ∙ ap (λ h. cell_ok c.args.map.shape.width h m c.loop-x.x c.loop-y.y) (sym z.height)
-    ∙ sym c.cell-is-lawful.ensures
-    ∙ c.if-not-cell-is-lawful.true)
+    ∙ sym c.cell_is_lawful.ensures
+    ∙ c.if-not-cell_is_lawful.true)
     c.loop-x.invariant)
 
 pub returns-after-loop-y : goal.returns-after-loop-y

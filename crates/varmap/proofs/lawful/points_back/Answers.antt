@@ -7,23 +7,23 @@ use Rattle.varmap.specs.Map.{points_back, back_at, all_back}
 use Rattle.varmap.proofs.AllCells.{cells_true, cells_false}
 use Rattle.varmap.proofs.lawful.points_back.Goals as goal
 
-pub returns-then-not-is-back : goal.returns-then-not-is-back
+pub returns-then-not-is_back : goal.returns-then-not-is_back
 unfolding all_back
-returns-then-not-is-back c =
+returns-then-not-is_back c =
     sym
     (cells_false c.args.size.width c.args.size.height
     (back_at (cells c.args.map.shape c.args.map.list.now) c.args.x c.args.y)
     c.loop-i.i c.loop-j.j c.loop-i-test.true c.loop-j-test.true
     (ap (λ (v : Cell). points_back v.holds c.loop-i.i c.loop-j.j) (sym (c.get.ensures (cell Empty)))
-    ∙ sym c.is-back.ensures
-    ∙ c.if-not-is-back.true))
+    ∙ sym c.is_back.ensures
+    ∙ c.if-not-is_back.true))
 
 pub loop-i-preserved : goal.loop-i-preserved
 loop-i-preserved c =
     clear_more _ _ _ _
     (ap (λ (v : Cell). points_back v.holds c.loop-i.i c.loop-j.j) (sym (c.get.ensures (cell Empty)))
-    ∙ sym c.is-back.ensures
-    ∙ c.if-not-is-back.false)
+    ∙ sym c.is_back.ensures
+    ∙ c.if-not-is_back.false)
     c.loop-i.invariant
 
 pub returns : goal.returns

@@ -3,9 +3,9 @@ use Rattle.refusal.proofs.Checked.{from_pass, from_fail}
 use Rattle.weights.specs.Weights.{weights_finite, finite_at, not_finite}
 use Rattle.weights.proofs.finite.check_finite.Goals as goal
 
-pub returns-then-not-is-finite : goal.returns-then-not-is-finite
+pub returns-then-not-is_finite : goal.returns-then-not-is_finite
 unfolding weights_finite
-returns-then-not-is-finite c =
+returns-then-not-is_finite c =
     let ws = c.args.weights.now in
     let bad : finite_at ws c.loop-i.i ≡ false = search rules in
     ap Err c.at.ensures

@@ -9,8 +9,8 @@ use Rattle.weights.specs.Weights.{table}
 use Rattle.weights.proofs.Weighed.{refit, SoFar, more, refused, passed}
 use Rattle.weights.proofs.placed.check_placed.Goals as goal
 
-pub next-lead-requires : goal.next-lead-requires
-next-lead-requires c = (sized_true _ _ _ _ c.requires.map).lawful
+pub next_lead-requires : goal.next_lead-requires
+next_lead-requires c = (sized_true _ _ _ _ c.requires.map).lawful
 
 pub weighs-requires : goal.weighs-requires
 weighs-requires c =
@@ -34,8 +34,8 @@ returns-then-not-weighs c =
     (refused w h m c.args.channel (table c.args.weights) c.loop-block.from v c.loop-block.invariant.1 f
     (sym c.weighs.ensures ∙ c.if-not-weighs.true))
 
-pub next-cell-from-requires : goal.next-cell-from-requires
-next-cell-from-requires c =
+pub next_cell-from-requires : goal.next_cell-from-requires
+next_cell-from-requires c =
     let w = c.args.w in
     let h = c.args.h in
     let m = cells c.args.map.shape c.args.map.list.now in
@@ -53,7 +53,7 @@ loop-block-smaller c =
     let m = cells c.args.map.shape c.args.map.list.now in
     let v = c.in-Some.block in
     let f = refit (λ w h. FirstLead w (w * h) m c.loop-block.from v) w h _ _ (sized_true _ _ _ _ c.requires.map) c.in-Some.ensures in
-    omega (arith, f.below, f.from, c.next-cell-from.ensures)
+    omega (arith, f.below, f.from, c.next_cell-from.ensures)
 
 pub loop-block-preserved : goal.loop-block-preserved
 loop-block-preserved c =
@@ -63,7 +63,7 @@ loop-block-preserved c =
     let v = c.in-Some.block in
     let t = table c.args.weights in
     let f = refit (λ w h. FirstLead w (w * h) m c.loop-block.from v) w h _ _ (sized_true _ _ _ _ c.requires.map) c.in-Some.ensures in
-    let next = c.next-cell-from.ensures in (
+    let next = c.next_cell-from.ensures in (
       omega (arith, f.below),
       subst (SoFar w h m c.args.channel t) (sym next)
           (more w h m c.args.channel t c.loop-block.from v c.loop-block.invariant.1 f (sym c.weighs.ensures ∙ c.if-not-weighs.false)),
@@ -74,4 +74,4 @@ returns c =
     let m = cells c.args.map.shape c.args.map.list.now in
     sym
     (passed c.args.w c.args.h m c.args.channel (table c.args.weights) c.loop-block.from c.loop-block.invariant.1
-    (refit (λ w h. NoLeads w m c.loop-block.from (w * h)) _ _ _ _ (sized_true _ _ _ _ c.requires.map) c.in-default.ensures))
+    (refit (λ w h. NoLeads w m c.loop-block.from (w * h)) _ _ _ _ (sized_true _ _ _ _ c.requires.map) c.in_default.ensures))

@@ -5,5 +5,5 @@ use Rattle.weights.proofs.placed.weighs.Goals as goal
 pub returns : goal.returns
 unfolding weighs
 returns c =
-    c.are-there.ensures
-    ∙ ap (λ n. are_there (start (table c.args.weights) c.args.kind) n (length c.args.weights.list.now)) c.count-of.ensures.count
+    c.are_there.ensures
+    ∙ ap (λ n. are_there (start (table c.args.weights) c.args.kind) n (length c.args.weights.list.now)) c.count_of.ensures.count

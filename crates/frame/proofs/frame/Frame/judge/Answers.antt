@@ -5,10 +5,10 @@ use Rattle.kinds.proofs.Sizes.{size_bounded}
 use Rattle.refusal.proofs.Rows.{demand_ok}
 use Rattle.frame.proofs.frame.Frame.judge.Goals as goal
 
-pub check-free-requires : goal.check-free-requires
-check-free-requires c =
-    let z = sized_true _ _ _ _ (sym c.fits.ensures ∙ demand_ok _ _ (sym c.in-ok-require-2.ensures)) in
-    let p = and_parts _ _ (demand_ok _ _ (sym c.in-ok-require-3.ensures)) in
+pub check_free-requires : goal.check_free-requires
+check_free-requires c =
+    let z = sized_true _ _ _ _ (sym c.fits.ensures ∙ demand_ok _ _ (sym c.in_ok-require-2.ensures)) in
+    let p = and_parts _ _ (demand_ok _ _ (sym c.in_ok-require-3.ensures)) in
     let a = leb-true _ _ (sym c.reaches.ensures ∙ p.0) in
     let b = leb-true _ _ (sym c.reaches-2.ensures ∙ p.1) in
     record {

@@ -12,13 +12,13 @@ paint-requires c =
     let map = c.args.map.now in
     let found =
     accepted frame.w8 frame.h8 frame.stage map.shape map.list.now c.args.kind c.args.x c.args.y
-    c.args.hf-mul c.in-ok-width.field-0
-    (ap (λ (s : Shape). place_judged frame.w8 frame.h8 frame.stage s map.list.now c.args.kind c.args.x c.args.y c.args.hf-mul)
+    c.args.hf_mul c.in_ok-width.field-0
+    (ap (λ (s : Shape). place_judged frame.w8 frame.h8 frame.stage s map.list.now c.args.kind c.args.x c.args.y c.args.hf_mul)
     (sym c.view.ensures.shape)
     ∙ ap
-    (λ (xs : List Cell). place_judged frame.w8 frame.h8 frame.stage c.view.result.shape xs c.args.kind c.args.x c.args.y c.args.hf-mul)
+    (λ (xs : List Cell). place_judged frame.w8 frame.h8 frame.stage c.view.result.shape xs c.args.kind c.args.x c.args.y c.args.hf_mul)
     (sym c.view.ensures.list)
-    ∙ sym c.in-ok-width.ensures) in
+    ∙ sym c.in_ok-width.ensures) in
     let bounds = size_bounded _ _ found.carried in
     let narrow = bounds.narrow in
     let low = bounds.low in

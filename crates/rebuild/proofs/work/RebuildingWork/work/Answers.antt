@@ -20,8 +20,8 @@ paint-requires g c =
       can = λ i j a b. (r.lawful, record { across = omega (arith, r.across); down = omega (arith, r.down) });
     }
 
-pub forward-larger-requires : goal.forward-larger-requires
-forward-larger-requires g c =
+pub forward_larger-requires : goal.forward_larger-requires
+forward_larger-requires g c =
     let b = size_bounded _ _ c.requires.carried in
     let s = size_sides _ _ c.requires.carried in
     record {
@@ -38,25 +38,25 @@ pub paint-requires-2 : goal.paint-requires-2
 paint-requires-2 g c =
     let z = size_bounded _ _ c.requires.carried in
     record {
-      lawful = subst (Lawful c.args.shape) (sym (c.forward-larger.auto.list ∙ c.paint.auto.list)) c.requires.lawful;
+      lawful = subst (Lawful c.args.shape) (sym (c.forward_larger.auto.list ∙ c.paint.auto.list)) c.requires.lawful;
       across = omega (arith, c.requires.across);
       down = omega (arith, c.requires.down);
       can = λ i j a b. (z.narrow, z.low);
     }
 
-pub inverse-block-requires : goal.inverse-block-requires
-inverse-block-requires g c =
+pub inverse_block-requires : goal.inverse_block-requires
+inverse_block-requires g c =
     let b = size_bounded _ _ c.requires.carried in
     let w = wide_is _ _ c.requires.carried in
     let h = high_is _ _ c.requires.carried in
     record {
-      lawful = subst (Lawful c.args.shape) (sym (c.paint-2.auto.list ∙ c.forward-larger.auto.list ∙ c.paint.auto.list)) c.requires.lawful;
+      lawful = subst (Lawful c.args.shape) (sym (c.paint-2.auto.list ∙ c.forward_larger.auto.list ∙ c.paint.auto.list)) c.requires.lawful;
       block = record { across = ap (λ n. 8 * n) (sym w); down = ap (λ n. 8 * n) (sym h) };
       wide = omega (arith, b.wide);
       tall = omega (arith, b.high);
       across = c.requires.across;
       down = c.requires.down;
-      room = omega (arith, c.requires.can.enough, c.forward-larger.auto.scratch);
+      room = omega (arith, c.requires.can.enough, c.forward_larger.auto.scratch);
     }
 
 pub returns : goal.returns
@@ -64,4 +64,4 @@ returns g c =
     rebuilt_done (maps g.K.Kernel.fwd g.K.Kernel.inv) (viewed c.args.self.now.lf) c.args.block c.args.shape c.args.list.now
     c.requires.lawful c.args.size.width c.args.size.height (sym (wide_is _ _ c.requires.carried)) (sym (high_is _ _ c.requires.carried))
     c.requires.across c.requires.down _ _ _ _
-    c.paint.ensures c.forward-larger.ensures c.paint-2.ensures c.inverse-block.ensures
+    c.paint.ensures c.forward_larger.ensures c.paint-2.ensures c.inverse_block.ensures
