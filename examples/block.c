@@ -1,6 +1,6 @@
 /* A cell of kind Hornuss with 4 at (0, 0) and 16 at (2, 0): its samples, row by row.
  *
- *   rt staticlib tablet
+ *   tools/staticlib
  *   cc -O2 -Iinclude examples/block.c target/staticlib/libtablet.a -o block && ./block
  */
 #include <stdio.h>

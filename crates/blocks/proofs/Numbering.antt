@@ -1,5 +1,5 @@
 -- Cells by number, in row order.
-use Rattle.std.proofs.Common.{◌≡◌, ℕ, ◌+◌, ◌-◌, ◌*◌, ◌/◌, ◌%◌, ◌<◌, ◌≤◌, ◌⊎◌, None, sym, refl, ap, ◌∙◌, subst, ⊎_elim, mul_comm, mul-one, mul-add, arith}
+use Rattle.std.proofs.Common.{◌≡◌, ℕ, ◌+◌, ◌-◌, ◌*◌, ◌/◌, ◌%◌, ◌<◌, ◌≤◌, None, sym, refl, ap, ◌∙◌, subst, ⊎_elim, mul_comm, mul-one, mul-add, arith}
 use Rattle.std.proofs.lemmas.Nat.{div-add-mod', div_below, mod_below, mul-le}
 use Rattle.grid.specs.declared.Shape.{Shape}
 use Rattle.grid.specs.Index.{Lawful, Inside}

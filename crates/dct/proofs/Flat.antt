@@ -1,5 +1,5 @@
 -- The flat law of the one-dimensional transforms: the inverse of c and zeros is c throughout, and the forward transform of c throughout is c and zeros.
-use Rattle.std.proofs.Common.{◌≡◌, ℕ, zero, suc, ◌+◌, ◌-◌, ◌*◌, ◌/◌, ◌%◌, ◌^◌, ◌<◌, ◌≤◌, Bool, true, false, cond, T, eqb, ltb, ◌⊎◌, List, map, sym, refl, ap, ◌∙◌, subst, inl, inr, zero-lt-suc, zero-add, arith, eqb→eq, ltb→lt, lt→ltb, pow_pos}
+use Rattle.std.proofs.Common.{◌≡◌, ℕ, zero, suc, ◌+◌, ◌-◌, ◌*◌, ◌/◌, ◌%◌, ◌^◌, ◌<◌, ◌≤◌, Bool, true, false, cond, T, eqb, ltb, List, map, sym, refl, ◌∙◌, subst, inl, inr, zero-lt-suc, zero-add, arith, eqb→eq, ltb→lt, lt→ltb, pow_pos}
 use native.Mathlib.Nat.{pow-succ'}
 use lib.Ieee.{Float, nan, of_bits}
 use Rattle.std.specs.List.{range_with_len}

@@ -1,5 +1,5 @@
 -- From the halves to the whole: what the parts of `dct` say of its list, at each length.
-use Rattle.std.proofs.Common.{◌≡◌, ℕ, zero, suc, ◌+◌, ◌*◌, ◌^◌, ◌<◌, ◌≤◌, ◌≢◌, List, [], ◌∷◌, length, set, sym, refl, ap, ◌∙◌, subst, not-suc-le-zero, arith, pow_pos}
+use Rattle.std.proofs.Common.{◌≡◌, ℕ, zero, suc, ◌+◌, ◌*◌, ◌^◌, ◌<◌, ◌≤◌, ◌≢◌, List, [], ◌∷◌, length, set, sym, refl, ap, ◌∙◌, subst, arith, pow_pos}
 use native.Mathlib.Nat.{pow-succ'}
 use lib.Ieee.{Float}
 use Rattle.dct.specs.declared.dct_common.DctDirection.{DctDirection}
@@ -7,7 +7,7 @@ use Rattle.dct.specs.declared.dct_common.DctDirection.TheVariants.{Forward, Inve
 use Rattle.dct.specs.Secants.{secants}
 use Rattle.dct.specs.Sides.{Sided}
 use Rattle.floats.specs.Arith.{plus, minus, over, two}
-use Rattle.dct.specs.Transform.{at, dct4_of, dct_of, idct, fdct, evens, odd_sums, joined, means, slopes, interleaved}
+use Rattle.dct.specs.Transform.{at, dct4_of, dct_of, evens, odd_sums, joined, means, slopes, interleaved}
 use Rattle.floats.proofs.Powers.{pow_inj}
 
 -- ---- a length from 8 on

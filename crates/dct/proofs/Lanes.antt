@@ -1,5 +1,5 @@
 -- Strips: one number more of a row or of a line, one row more, and the transform of each line from its halves.
-use Rattle.std.proofs.Common.{◌≡◌, ℕ, zero, suc, ◌+◌, ◌-◌, ◌*◌, ◌/◌, ◌^◌, ◌<◌, ◌≤◌, ◌≢◌, ◌⊎◌, List, [], ◌∷◌, map, length, set, sym, refl, ap, ◌∙◌, subst, ap₂, inl, inr, add-zero, zero-add, arith, length-set, get_or-set_other, get_or-set_same, pow_pos, pow_mono, below_more}
+use Rattle.std.proofs.Common.{◌≡◌, ℕ, zero, suc, ◌+◌, ◌-◌, ◌*◌, ◌/◌, ◌^◌, ◌<◌, ◌≤◌, ◌≢◌, ◌⊎◌, List, [], ◌∷◌, map, length, set, sym, refl, ap, ◌∙◌, ap₂, inl, inr, add-zero, arith, length-set, get_or-set_other, get_or-set_same, pow_pos, pow_mono, below_more}
 use native.Mathlib.Nat.{pow-succ'}
 use lib.Ieee.{Float, nan}
 use Rattle.std.specs.List.{range_with_len}
@@ -9,7 +9,7 @@ use Rattle.floats.specs.Arith.{plus, minus, times}
 use Rattle.dct.specs.Secants.{root_two, secants}
 use Rattle.dct.specs.Sides.{Long}
 use Rattle.dct.specs.Strips.{lane, lanes, odd_lane, sum_lane, difference_lane, eight, sums, differences, scaled, Rowed, Paired, Laned}
-use Rattle.dct.specs.Transform.{at, evens, odd_sum, odd_sums, sum_at, difference_at, joined, idct}
+use Rattle.dct.specs.Transform.{at, evens, odd_sum, odd_sums, joined, idct}
 use Rattle.dct.proofs.Flat.{at_map}
 use Rattle.dct.proofs.Steps.{joined_all}
 

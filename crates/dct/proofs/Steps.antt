@@ -1,13 +1,12 @@
 -- Steps of the loops that write a list at two places a turn, and what the places say of the list.
-use Rattle.std.proofs.Common.{◌≡◌, ℕ, zero, suc, ◌+◌, ◌-◌, ◌*◌, ◌/◌, ◌%◌, ◌<◌, ◌≤◌, Bool, true, false, cond, T, eqb, ltb, ◌≢◌, ◌⊎◌, List, map, length, get_or, set, sym, refl, ap, ◌∙◌, subst, inl, inr, arith, eqb→eq, ltb→lt, lt→ltb, length-set, get_or-set_other, get_or-set_same, below_more}
+use Rattle.std.proofs.Common.{◌≡◌, ℕ, zero, suc, ◌+◌, ◌-◌, ◌*◌, ◌/◌, ◌%◌, ◌<◌, ◌≤◌, Bool, true, false, cond, T, eqb, ltb, ◌≢◌, List, length, set, sym, refl, ap, ◌∙◌, subst, inl, inr, arith, eqb→eq, ltb→lt, lt→ltb, length-set, get_or-set_other, get_or-set_same, below_more}
 use lib.Ieee.{Float, nan}
 use lib.Ieee.Fits.{eq→eqb}
-use Rattle.std.specs.List.{range_with_len}
 use Rattle.std.proofs.lemmas.List.FromFn.{fill_by_all}
 use Rattle.std.proofs.lemmas.Bool.{cases_lt}
 use Rattle.floats.specs.Arith.{plus, minus, times, over, two}
 use Rattle.dct.specs.Secants.{root_two}
-use Rattle.dct.specs.Transform.{at, odd_sum, slope, sum_at, difference_at, butterfly, joined, first_scaled, gathered, woven, interleaved}
+use Rattle.dct.specs.Transform.{at, odd_sum, slope, sum_at, difference_at, butterfly, joined, gathered, woven, interleaved}
 
 -- ---- two writes
 

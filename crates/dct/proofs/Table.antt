@@ -1,5 +1,5 @@
 -- The rule of the half secants, proved at all of their numbers by one test that antt computes.
-use Rattle.std.proofs.Common.{◌≡◌, ℕ, zero, suc, ◌+◌, ◌^◌, ◌<◌, ◌≤◌, Bool, true, false, T, ◌⊎◌, List, [], ◌∷◌, map, length, get_or, take, drop, sym, refl, subst, inl, inr, le_of_suc-le-suc, not-suc-le-zero, add-one, arith, lit≤}
+use Rattle.std.proofs.Common.{◌≡◌, ℕ, zero, suc, ◌^◌, ◌<◌, ◌≤◌, Bool, true, false, T, ◌⊎◌, List, [], ◌∷◌, map, length, get_or, take, drop, sym, subst, inl, inr, le_of_suc-le-suc, not-suc-le-zero, add-one, arith, lit≤}
 use lib.Ieee.{Float, nan, inf, fin, lt, of_bits}
 use lib.Ieee.Scale.{finite}
 use Rattle.std.proofs.lemmas.Bool.{cases_eq}

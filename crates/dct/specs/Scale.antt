@@ -1,6 +1,5 @@
 -- The scale factors by which the low frequencies of a block are divided, as the f32 of the code, each given by its bits.
-use Rattle.std.specs.Prelude.{ℕ, ◌*◌, ◌^◌, cond, ltb, List, [], ◌∷◌, map, Float}
-use Rattle.std.specs.Float.{nan}
+use Rattle.std.specs.Prelude.{ℕ, ◌*◌, ◌^◌, List, [], ◌∷◌, map, Float}
 use Rattle.floats.specs.Arith.{float}
 use Rattle.dct.specs.Transform.{at}
 

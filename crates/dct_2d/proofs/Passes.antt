@@ -1,5 +1,5 @@
 -- Lines of a patch: one number more of a line, one line more of a patch, and rows and columns after one another.
-use Rattle.std.proofs.Common.{◌≡◌, ℕ, zero, suc, ◌+◌, ◌^◌, ◌<◌, ◌≤◌, Bool, true, false, cond, ◌&&◌, eqb, ltb, ◌⊎◌, List, [], ◌∷◌, map, length, get_or, set, sym, refl, ap, ◌∙◌, subst, ap₂, inl, inr, le_refl, zero-add, arith, pow_mono}
+use Rattle.std.proofs.Common.{◌≡◌, ℕ, zero, suc, ◌+◌, ◌^◌, ◌<◌, ◌≤◌, cond, ltb, List, [], ◌∷◌, map, length, set, sym, refl, ap, ◌∙◌, subst, ap₂, inl, inr, le_refl, zero-add, arith, pow_mono}
 use lib.Ieee.{Float, nan}
 use Rattle.std.specs.List.{range_with_len}
 use Rattle.std.proofs.lemmas.List.FromFn.{fill_by_all, get_or-map-range_with_len, length-map-range_with_len}
@@ -9,7 +9,7 @@ use Rattle.grid.specs.declared.Shape.{Shape}
 use Rattle.grid.specs.Index.{index, Inside, Lawful}
 use Rattle.grid.specs.Painted.{painted}
 use Rattle.grid.specs.Window.{elements}
-use Rattle.grid.proofs.Laws.{painted_in, length_painted}
+use Rattle.grid.proofs.Laws.{painted_in}
 use Rattle.floats.specs.Arith.{plus, minus, times}
 use Rattle.dct.specs.declared.dct_common.DctDirection.{DctDirection}
 use Rattle.dct.specs.declared.dct_common.DctDirection.TheVariants.{Forward, Inverse}
@@ -23,7 +23,7 @@ use Rattle.dct.specs.Transform.{at, dct_of}
 use Rattle.floats.proofs.Powers.{pow_inj}
 use Rattle.dct.proofs.Flat.{at_map}
 use Rattle.dct.proofs.Halves.{two_list}
-use Rattle.dct_2d.proofs.Paintings.{painted_more, painted_alike, painted_none, painted_twice, poured_alike, poured_twice, poured_lawful, element_in, element_poured}
+use Rattle.dct_2d.proofs.Paintings.{painted_more, painted_alike, painted_none, painted_twice, poured_alike, poured_twice, element_in, element_poured}
 
 -- ---- places
 

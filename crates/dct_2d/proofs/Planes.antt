@@ -1,21 +1,19 @@
 -- The flat law in two dimensions, from the one-dimensional one.
-use Rattle.std.proofs.Common.{◌≡◌, ℕ, zero, suc, ◌+◌, ◌^◌, ◌<◌, ◌≤◌, ◌⊎◌, map, sym, refl, ap, ◌∙◌, subst, inl, inr, zero-lt-suc, arith, pow_pos}
+use Rattle.std.proofs.Common.{ℕ, zero, suc, ◌+◌, ◌^◌, ◌<◌, ◌≤◌, map, sym, subst, zero-lt-suc, arith, pow_pos}
 use lib.Ieee.{Float}
 use Rattle.std.specs.List.{range_with_len}
-use Rattle.dct.specs.declared.dct_common.DctDirection.{DctDirection}
 use Rattle.dct.specs.declared.dct_common.DctDirection.TheVariants.{Forward, Inverse}
-use Rattle.dct.specs.Flat.{Pulse, Level}
 use Rattle.dct_2d.specs.Flat.{Peak, Even}
 use Rattle.floats.specs.Arith.{one}
-use Rattle.dct_2d.specs.Plane.{Line, Patch, factor, pair, line, across, down, square, plane}
-use Rattle.floats.specs.Same.{Zero, Same, Finite, Number, Room}
+use Rattle.dct_2d.specs.Plane.{Line, Patch, line, across, down, square, plane}
+use Rattle.floats.specs.Same.{Zero, Same, Number, Room}
 use Rattle.floats.specs.Arith.{half}
 use Rattle.floats.specs.Arith.{plus, minus, times, nought}
-use Rattle.dct.specs.Transform.{at, dct_of, idct, fdct}
+use Rattle.dct.specs.Transform.{dct_of}
 use Rattle.floats.proofs.Wholes.{zero_of, same_nought, nought_number, nought_room}
 use Rattle.dct.proofs.Flat.{at_map, idct_level, fdct_pulse}
-use Rattle.floats.proofs.Exact.{zero_plus, zero_minus, zero_times, plus_zero, minus_zero, minus_same, plus_same, twice, room_twice, room_less, number_twice}
-use Rattle.floats.proofs.Factors.{half_finite, one_finite, times_half, times_one, zero_first, minus_twice, opposite}
+use Rattle.floats.proofs.Exact.{zero_times, plus_zero, minus_zero, minus_same, plus_same, twice, room_less, number_twice}
+use Rattle.floats.proofs.Factors.{half_finite, times_half, times_one, zero_first, minus_twice, opposite}
 use Rattle.floats.proofs.FourTimes.{plus_four_times}
 
 -- a line of n numbers: c first and zeros; c throughout

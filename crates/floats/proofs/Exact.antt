@@ -1,14 +1,13 @@
 -- Sums, products and quotients with a zero, and of a number with itself: doubling and halving are exact.
-use Rattle.std.proofs.Common.{◌≡◌, ℕ, zero, suc, ◌+◌, ◌-◌, ◌*◌, ◌%◌, ◌^◌, ◌<◌, ◌≤◌, Bool, true, false, cond, not, ◌&&◌, T, eqb, ltb, leb, ◌⊎◌, ℤ, pos, negsuc, sym, refl, ap, ◌∙◌, subst, subst₂, inl, inr, le_trans, le_refl, add-zero, lt_irrefl, zero-lt-suc, mul_assoc, mul_comm, lt_of_mul-lt-mul_right, mul-lt-mul_of_pos_right, mul-pos, one-mul, zero-mul, mul-one, mul_right_comm, mul_left_comm, arith, lit<, lit≤, le→leb, ltb→lt, lt→ltb, pow_pos, pow_mono}
-use mathlib.Core.Bool.{beq}
+use Rattle.std.proofs.Common.{◌≡◌, ℕ, zero, suc, ◌+◌, ◌-◌, ◌*◌, ◌%◌, ◌^◌, ◌<◌, ◌≤◌, Bool, true, false, cond, not, ◌&&◌, T, eqb, ltb, leb, ◌⊎◌, ℤ, pos, negsuc, sym, refl, ap, ◌∙◌, subst, subst₂, inl, inr, le_trans, le_refl, add-zero, lt_irrefl, zero-lt-suc, mul_assoc, mul_comm, lt_of_mul-lt-mul_right, mul-lt-mul_of_pos_right, mul-pos, one-mul, mul-one, mul_right_comm, mul_left_comm, arith, lit<, lit≤, le→leb, ltb→lt, lt→ltb, pow_pos, pow_mono}
 use native.Mathlib.Nat.{sub_self, sub-zero, eq_of_mul-eq-mul_right, pow-succ'}
 use lib.Dec.{leb-suc-zero, eqb-suc-zero}
-use lib.Ieee.{Float, nan, inf, fin, binary32, prec, emax, low, up, down, unlike, round, sum, add, sub, mul, div, neg, fits, of_bits}
+use lib.Ieee.{Float, nan, inf, fin, binary32, emax, up, down, unlike, round, sum, add, sub, mul, div, neg, fits, of_bits}
 use lib.Ieee.Fits.{and_i, eq→eqb, up_pos, down_pos}
-use lib.Ieee.Bits.{is_true, is_false}
+use lib.Ieee.Bits.{is_true}
 use Rattle.floats.specs.Same.{Zero, Same, Finite, Number, Room}
 use Rattle.floats.specs.Arith.{plus, minus, times, over, two, four}
-use Rattle.floats.proofs.Rounding.{Parts, parts, nothing, zero_factor, round_fin}
+use Rattle.floats.proofs.Rounding.{parts, nothing, zero_factor, round_fin}
 
 -- ---- zeros
 

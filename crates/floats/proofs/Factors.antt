@@ -1,13 +1,13 @@
 -- Halves and ones as factors, a zero on the left, twice a number less the number, a number and its opposite.
-use Rattle.std.proofs.Common.{◌≡◌, ℕ, zero, suc, ◌+◌, ◌-◌, ◌*◌, ◌^◌, ◌<◌, ◌≤◌, Bool, true, false, cond, not, ◌&&◌, T, ltb, ◌⊎◌, ℤ, pos, negsuc, sym, refl, ap, ◌∙◌, subst, inl, inr, zero-lt-suc, mul_assoc, mul_comm, mul-pos, zero-add, mul-one, mul_right_comm, mul_left_comm, arith, lit<, ltb→lt, lt→ltb}
+use Rattle.std.proofs.Common.{◌≡◌, ℕ, zero, suc, ◌-◌, ◌*◌, ◌<◌, ◌≤◌, Bool, true, false, not, T, ltb, ◌⊎◌, pos, negsuc, sym, refl, ap, ◌∙◌, subst, inl, inr, zero-lt-suc, mul_assoc, mul_comm, mul-pos, zero-add, mul-one, mul_left_comm, arith, ltb→lt, lt→ltb}
 use native.Mathlib.Nat.{sub-zero, sub_self}
-use lib.Ieee.{Float, nan, inf, fin, binary32, up, down, unlike, round, sum, add, sub, mul, neg, fits, of_bits}
-use lib.Ieee.Bits.{is_true, is_false}
+use lib.Ieee.{Float, nan, inf, fin, binary32, up, down, round, sum, add, sub, mul, neg, of_bits}
+use lib.Ieee.Bits.{is_true}
 use lib.Ieee.Fits.{up_pos, down_pos, neg-fits}
-use Rattle.floats.specs.Same.{Zero, Same, Finite, Number, Room}
+use Rattle.floats.specs.Same.{Zero, Same, Finite, Number}
 use Rattle.floats.specs.Arith.{half, one, plus, minus, times}
-use Rattle.floats.proofs.Exact.{round_zero, ltb_self, ltb_zero, none_of, no_factor, like_false, zero_plus, zero_minus, zero_neg, zero_times, zero_twice, zero_of_twice, bump, bump_is, twice, cross_half}
-use Rattle.floats.proofs.Rounding.{nothing, round_fin}
+use Rattle.floats.proofs.Exact.{round_zero, ltb_self, none_of, no_factor, like_false, zero_plus, zero_minus, zero_neg, zero_times, zero_twice, zero_of_twice, bump, bump_is, twice, cross_half}
+use Rattle.floats.proofs.Rounding.{round_fin}
 
 -- ---- times one half, and times one
 

@@ -1,10 +1,9 @@
 -- c + c + c + c is four times c for every c of which four are below the format's end, though c + c + c may be rounded.
 -- In units of the format's smallest value c is C = M * 2 ^ i with M of 24 digits, or C is below 2 ^ 23. Then 3C is rounded to a number at most 2 * 2 ^ i away
 -- from it, and C more is rounded to 4C: to the nearest, and at a tie to the even one. All that is linear in M.
-use Rattle.std.proofs.Common.{◌≡◌, ℕ, zero, suc, ◌+◌, ◌-◌, ◌*◌, ◌/◌, ◌%◌, ◌^◌, ◌<◌, ◌≤◌, Bool, true, false, ◌⊎◌, ℤ, pos, negsuc, sym, refl, ap, ◌∙◌, subst, ap₂, subst₂, inl, inr, le_trans, lt_of_lt_of_le, lt_of_le_of_lt, mul-le-mul_right, zero-lt-suc, mul_assoc, mul_comm, add-mul, lt_of_mul-lt-mul_right, mul-lt-mul_of_pos_right, mul-pos, mul-one, mul_right_comm, mul-div_cancel, mul_left_comm, arith, pow_pos, pow_mono, pow-add}
+use Rattle.std.proofs.Common.{◌≡◌, ℕ, zero, suc, ◌+◌, ◌-◌, ◌*◌, ◌/◌, ◌%◌, ◌^◌, ◌<◌, ◌≤◌, Bool, ℤ, pos, negsuc, sym, refl, ap, ◌∙◌, subst, ap₂, subst₂, inl, inr, lt_of_lt_of_le, lt_of_le_of_lt, mul-le-mul_right, zero-lt-suc, mul_assoc, mul_comm, add-mul, lt_of_mul-lt-mul_right, mul-lt-mul_of_pos_right, mul-pos, mul-one, mul_right_comm, mul-div_cancel, mul_left_comm, arith, pow_pos, pow_mono, pow-add}
 use Prim.Native.Nat.{compare}
 use native.Mathlib.Nat.{add-mul-mod_self_left, eq_of_mul-eq-mul_right}
-use lib.Pow.{pow-lt}
 use lib.Ieee.{Float, nan, inf, fin, binary32, size, nearest, units, round, sum, add, up, down}
 use lib.Ieee.Digits.{size-lt, size-le, size_reaches}
 use lib.Ieee.Exact.{HasValue, units_val, round_exact}
@@ -14,7 +13,7 @@ use Rattle.std.proofs.lemmas.Bool.{cases_lt}
 use lib.Ieee.Scale.{round_same}
 use Rattle.floats.specs.Same.{Zero, Same, Number, Room}
 use Rattle.floats.specs.Arith.{plus}
-use Rattle.floats.proofs.Exact.{zero_plus, zero_twice, plus_same, sum_like, bump, bump_is, twice, number_twice, room_twice, room_less}
+use Rattle.floats.proofs.Exact.{zero_plus, plus_same, sum_like, bump, bump_is, twice, number_twice, room_twice, room_less}
 use Rattle.floats.proofs.Powers.{pow_le}
 use Rattle.floats.proofs.Rounding.{parts, round_fin}
 

@@ -1,5 +1,5 @@
 -- Zeros and whole numbers: both are numbers of which four stay below the format's end.
-use Rattle.std.proofs.Common.{◌≡◌, ℕ, zero, suc, ◌*◌, ◌^◌, ◌<◌, ◌≤◌, Bool, true, false, ◌⊎◌, ℤ, pos, negsuc, sym, refl, ap, ◌∙◌, subst, inl, inr, mul-lt-mul_of_pos_right, mul-one, mul_right_comm, arith, pow_pos}
+use Rattle.std.proofs.Common.{◌≡◌, ℕ, suc, ◌*◌, ◌^◌, ◌<◌, ◌≤◌, Bool, true, false, ℤ, pos, negsuc, sym, refl, ap, ◌∙◌, subst, inl, inr, mul-lt-mul_of_pos_right, mul-one, mul_right_comm, arith, pow_pos}
 use lib.Ieee.{Float, nan, inf, fin, binary32, up, down, round, of_int, fits}
 use lib.Ieee.Back.{round_whole}
 use lib.Ieee.Exact.{HasValue}

@@ -1,25 +1,22 @@
 -- What an accepted place found.
-use Rattle.std.proofs.Common.{◌≡◌, ℕ, ◌+◌, ◌<◌, ◌≤◌, Bool, true, false, ◌&&◌, leb, List, length, Some, None, Ok, Err, Option, Result, sym, refl, ap, ◌∙◌, subst, arith}
-use Rattle.std.proofs.lemmas.Bool.{and_parts, leb-true, true≢false}
+use Rattle.std.proofs.Common.{◌≡◌, ℕ, ◌+◌, ◌<◌, ◌≤◌, true, leb, List, length, Some, None, Ok, Option, Result, refl, subst, arith}
+use Rattle.std.proofs.lemmas.Bool.{and_parts, leb-true}
 use Rattle.grid.specs.declared.Shape.{Shape}
-use Rattle.grid.specs.Index.{sized}
 use Rattle.grid.proofs.Sized.{Sized, sized_true, wide_enough}
 use Rattle.kinds.specs.declared.Size.{Size}
 use Rattle.kinds.specs.Kinds.{size_of}
 use Rattle.kinds.proofs.Sizes.{size_bounded}
 use Rattle.refusal.specs.declared.Refusal.{Refusal}
-use Rattle.refusal.specs.Verdicts.{Verdict}
 use Rattle.refusal.proofs.Checked.{checked_passed}
 use Rattle.refusal.proofs.Rows.{and_ok, demand_ok}
 use Rattle.varmap.specs.declared.cells.Cell.{Cell}
-use Rattle.varmap.specs.declared.cells.Record.{Record}
-use Rattle.varmap.specs.declared.cells.Record.TheVariants.{Empty, Lead, Covered}
+use Rattle.varmap.specs.declared.cells.Record.TheVariants.{Empty}
 use Rattle.frame.specs.declared.stages.Stage.{Stage}
-use Rattle.varmap.specs.Cells.{cells, is_empty}
+use Rattle.varmap.specs.Cells.{cells}
 use Rattle.frame.specs.Stages.{is_placing}
-use Rattle.varmap.specs.Map.{in_range, map_checked, LawfulMap}
+use Rattle.varmap.specs.Map.{in_range, LawfulMap}
 use Rattle.varmap.proofs.Passed.{passed_lawful, empty_true}
-use Rattle.frame.specs.Placing.{rectangle_ok, free_checked, sized_placing, place_judged}
+use Rattle.frame.specs.Placing.{free_checked, sized_placing, place_judged}
 
 ok_same : (v z : Size) → ◌≡◌ {A = Result Size Refusal} (Ok v) (Ok z) → v ≡ z
 ok_same v z e = cc

@@ -1,16 +1,14 @@
 -- The laws of an accepted place.
-use Rattle.std.proofs.Common.{◌≡◌, ℕ, ◌+◌, ◌-◌, ◌*◌, ◌<◌, ◌≤◌, List, length, Some, sym, refl, ap, ◌∙◌, subst, mul_comm, arith}
+use Rattle.std.proofs.Common.{◌≡◌, ℕ, ◌+◌, ◌-◌, ◌<◌, List, ap, ◌∙◌, subst, mul_comm, arith}
 use Rattle.grid.specs.declared.Shape.{Shape}
 use Rattle.grid.specs.Index.{Inside}
 use Rattle.grid.specs.Painted.{painted, patch}
 use Rattle.grid.proofs.Laws.{painted_in}
 use Rattle.kinds.specs.declared.Size.{Size}
 use Rattle.varmap.specs.declared.cells.Cell.{Cell}
-use Rattle.varmap.specs.declared.cells.Record.{Record}
 use Rattle.varmap.specs.declared.cells.Record.TheVariants.{Empty}
 use Rattle.frame.specs.declared.stages.Stage.{Stage}
 use Rattle.varmap.specs.Cells.{cell, cells}
-use Rattle.varmap.specs.Map.{LawfulMap}
 use Rattle.frame.specs.Placing.{stamp, stamped, placed}
 use Rattle.frame.specs.Counts.{filled}
 use Rattle.frame.specs.Laws.{KeepsLawful, AddsCells}

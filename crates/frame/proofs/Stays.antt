@@ -1,6 +1,6 @@
 -- A varblock that is placed where all was empty leaves a lawful map lawful.
-use Rattle.std.proofs.Common.{◌≡◌, ℕ, ◌+◌, ◌-◌, ◌<◌, ◌≤◌, Bool, true, false, cond, ◌&&◌, ◌||◌, eqb, ltb, leb, ◌⊎◌, Some, None, Option, sym, refl, ap, ◌∙◌, subst, inl, inr, ⊎_elim, arith}
-use Rattle.std.proofs.lemmas.Bool.{cases_lt, cases_eq, cases_Bool, and_from, and_parts, or_cases, le-leb, lt-ltb, leb-true, ltb-true, eqb-true, eq-eqb, cond-true, cond-false, true≢false}
+use Rattle.std.proofs.Common.{◌≡◌, ℕ, ◌+◌, ◌-◌, ◌<◌, ◌≤◌, true, false, cond, ◌&&◌, eqb, leb, Some, None, Option, sym, refl, ap, ◌∙◌, subst, ⊎_elim, arith}
+use Rattle.std.proofs.lemmas.Bool.{cases_eq, cases_Bool, and_from, and_parts, le-leb, lt-ltb, leb-true, eqb-true, eq-eqb, cond-true, cond-false, true≢false}
 use Rattle.std.proofs.lemmas.Bool.Decides.{nat_tests}
 use Rattle.kinds.specs.declared.Size.{Size}
 use Rattle.kinds.specs.Kinds.{size_of}
@@ -8,7 +8,7 @@ use Rattle.kinds.proofs.Sizes.{size_bounded}
 use Rattle.varmap.specs.declared.cells.Record.{Record}
 use Rattle.varmap.specs.declared.cells.Record.TheVariants.{Empty, Lead, Covered}
 use Rattle.varmap.specs.Cells.{cell}
-use Rattle.varmap.specs.Map.{points_back, in_range, back_at, all_back, lead_of, within, reaches, covered_ok, cell_as, cell_ok, LawfulMap}
+use Rattle.varmap.specs.Map.{points_back, in_range, back_at, all_back, lead_of, within, reaches, cell_as, cell_ok, LawfulMap}
 use Rattle.frame.specs.Placing.{stamp}
 use Rattle.varmap.proofs.AllCells.{cells_true, true_cells}
 use Rattle.frame.proofs.Rectangle.{In, cases_in}

@@ -1,11 +1,11 @@
 -- A walk over a patch of a grid, row by row and in each row column by column, that writes f i j old at (x + i, y + j).
 -- In an invariant `strip f x y j i` is what the patch's row j has behind it, and `patch x y w j f` what the patch has.
-use Rattle.std.proofs.Common.{◌≡◌, ℕ, ◌+◌, ◌-◌, ◌<◌, ◌≤◌, Bool, true, false, cond, ◌&&◌, eqb, ltb, leb, List, length, get_or, set, sym, refl, ap, ◌∙◌, subst, arith}
+use Rattle.std.proofs.Common.{◌≡◌, ℕ, ◌+◌, ◌-◌, cond, ◌&&◌, eqb, ltb, leb, List, length, get_or, set, ◌∙◌, arith}
 use Rattle.std.proofs.lemmas.Bool.Decides.{nat_tests}
 use Rattle.grid.specs.declared.Shape.{Shape}
 use Rattle.grid.specs.Index.{index, Inside, Lawful}
 use Rattle.grid.specs.Painted.{painted, patch}
-use Rattle.grid.proofs.Laws.{painted_in, painted_more, painted_alike, painted_none, painted_twice, length_painted}
+use Rattle.grid.proofs.Laws.{painted_in, painted_more, painted_alike, painted_none, painted_twice}
 
 abbrev pub strip : {X : Type 0} → (ℕ → ℕ → X → X) → ℕ → ℕ → ℕ → ℕ → ℕ → ℕ → X → X
 strip f x y j i p q old = cond (eqb q (y + j) && (leb x p && ltb p (x + i))) (f (p - x) j old) old

@@ -1,5 +1,5 @@
 -- A list after each element inside a grid was replaced, and no other.
-use Rattle.std.specs.Prelude.{ℕ, suc, ◌+◌, ◌-◌, Bool, cond, ◌&&◌, List, [], ◌∷◌, ◌==◌, nat_le, nat_lt}
+use Rattle.std.specs.Prelude.{ℕ, ◌+◌, ◌-◌, Bool, cond, ◌&&◌, List, [], ◌∷◌, ◌==◌, nat_le, nat_lt}
 use Rattle.grid.specs.declared.Shape.{Shape}
 use Rattle.grid.specs.Index.{index, column, row}
 

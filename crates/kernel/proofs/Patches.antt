@@ -1,5 +1,5 @@
 -- A patch that is lent to a kernel as a list of its own.
-use Rattle.std.proofs.Common.{◌≡◌, ℕ, ◌+◌, ◌-◌, ◌*◌, ◌<◌, ◌≤◌, Bool, true, false, cond, ◌&&◌, ◌||◌, eqb, leb, ◌⊎◌, List, ◌++◌, length, take, drop, sym, refl, ap, ◌∙◌, subst, inl, inr, ⊎_elim, arith}
+use Rattle.std.proofs.Common.{◌≡◌, ℕ, ◌+◌, ◌*◌, ◌≤◌, true, ◌&&◌, eqb, leb, List, ◌++◌, length, take, drop, sym, ap, ◌∙◌, subst, arith}
 use lib.Ieee.{Float}
 use Rattle.std.proofs.lemmas.List.{length-drop}
 use Rattle.std.proofs.lemmas.Bool.{and_from, le-leb, eq-eqb, cond-true}
@@ -8,7 +8,6 @@ use Rattle.grid.specs.declared.Shape.{Shape}
 use Rattle.grid.specs.declared.brush.Area.{Area}
 use Rattle.grid.specs.Index.{Lawful, lawful, sized, sub, start}
 use Rattle.grid.specs.Painted.{painted}
-use Rattle.grid.specs.Window.{elements}
 use Rattle.grid.proofs.Sub.{start_below, sub_lawful, sub_painted}
 use Rattle.grid.proofs.Sized.{true_lawful}
 use Rattle.grid.proofs.Windows.{elements_sub}

@@ -1,6 +1,6 @@
 -- What a kernel means: two maps of patches. A patch gives the number at (x, y), and nan past its sides, so that equal patches are
 -- equal functions.
-use Rattle.std.specs.Prelude.{◌≡◌, ℕ, ◌*◌, Bool, true, cond, ◌&&◌, ◌||◌, List, length, ◌==◌, nat_le, Float}
+use Rattle.std.specs.Prelude.{◌≡◌, ℕ, ◌*◌, Bool, cond, ◌&&◌, ◌||◌, List, length, ◌==◌, nat_le, Float}
 use Rattle.grid.specs.declared.Shape.{Shape}
 use Rattle.grid.specs.declared.brush.Area.{Area}
 use Rattle.grid.specs.Index.{lawful, sized}

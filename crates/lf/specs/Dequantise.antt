@@ -1,5 +1,5 @@
 -- LF dequantise.
-use Rattle.std.specs.Prelude.{ℕ, Bool, ◌&&◌, leb, List, ℤ, nat_abs, Ok, Float}
+use Rattle.std.specs.Prelude.{ℕ, Bool, ◌&&◌, List, ℤ, Ok, Float}
 use Rattle.std.specs.Float.Ieee.{mul, of_int}
 use Rattle.std.specs.Float.{float_is_finite, binary32}
 use Rattle.grid.specs.declared.brush.Xyb.{Xyb}

@@ -1,13 +1,12 @@
 -- In a parted map the varblock of a cell, read off the map, is the one varblock around it.
-use Rattle.std.proofs.Common.{◌≡◌, ℕ, ◌+◌, ◌-◌, ◌<◌, ◌≤◌, Bool, true, false, cond, ◌&&◌, eqb, ◌⊎◌, List, [], ◌∷◌, Some, None, Option, sym, refl, ap, ◌∙◌, subst, inl, inr, ⊎_elim, arith}
+use Rattle.std.proofs.Common.{◌≡◌, ℕ, ◌-◌, ◌<◌, true, cond, ◌&&◌, eqb, List, [], ◌∷◌, Some, sym, refl, ap, ◌∙◌, subst, inl, inr, ⊎_elim, arith}
 use Rattle.std.proofs.lemmas.Bool.{cases_Bool, cond-true, cond-false, and_parts, eqb-true}
-use Rattle.kinds.specs.Kinds.{wide, high}
 use Rattle.varmap.specs.declared.cells.Record.{Record}
 use Rattle.varmap.specs.declared.cells.Record.TheVariants.{Empty, Lead, Covered}
 use Rattle.blocks.specs.declared.leads.Varblock.{Varblock}
 use Rattle.blocks.specs.Leads.{varblock, leads_to, held_by, holder}
-use Rattle.partition.specs.Parted.{covers, written, around, Held, Within, Each, Among, Parted}
-use Rattle.partition.proofs.Lists.{each_among, around_among, among_around, Sides, covers_sides, sides_covers}
+use Rattle.partition.specs.Parted.{covers, written, around, Held, Within, Among, Parted}
+use Rattle.partition.proofs.Lists.{each_among, around_among, among_around, covers_sides, sides_covers}
 
 module _ (w h : ℕ) (vs : List Varblock) (m : ℕ → ℕ → Record) (parted : Parted w h vs m) where
   -- the only one around a cell

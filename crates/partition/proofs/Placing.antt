@@ -1,16 +1,15 @@
 -- An accepted place adds its varblock to the partition; `open` begins with none.
-use Rattle.std.proofs.Common.{◌≡◌, ℕ, zero, suc, ◌+◌, ◌-◌, ◌*◌, ◌<◌, ◌≤◌, Bool, true, false, cond, ◌&&◌, eqb, ◌⊎◌, List, [], ◌∷◌, ◌++◌, length, Some, Ok, sym, refl, ap, ◌∙◌, subst, inl, inr, ⊎_elim, arith}
+use Rattle.std.proofs.Common.{◌≡◌, ℕ, zero, suc, ◌+◌, ◌-◌, ◌*◌, ◌<◌, Bool, true, false, cond, ◌&&◌, eqb, List, [], ◌∷◌, ◌++◌, length, Ok, sym, refl, ap, ◌∙◌, subst, inl, inr, ⊎_elim, arith}
 use Rattle.std.proofs.lemmas.List.{append-nil}
-use Rattle.std.proofs.lemmas.Bool.{cases_Bool, cond-true, cond-false, true≢false}
+use Rattle.std.proofs.lemmas.Bool.{cases_Bool, true≢false}
 use Rattle.grid.specs.declared.Shape.{Shape}
-use Rattle.grid.specs.Index.{Lawful, Inside}
+use Rattle.grid.specs.Index.{Lawful}
 use Rattle.grid.specs.Painted.{solid}
 use Rattle.grid.proofs.Laws.{painted_in}
 use Rattle.kinds.specs.declared.Size.{Size}
 use Rattle.kinds.specs.Kinds.{wide, high}
 use Rattle.kinds.proofs.Sizes.{size_bounded, wide_is, high_is}
 use Rattle.varmap.specs.declared.cells.Cell.{Cell}
-use Rattle.varmap.specs.declared.cells.Record.{Record}
 use Rattle.varmap.specs.declared.cells.Record.TheVariants.{Empty, Lead, Covered}
 use Rattle.varmap.specs.Cells.{cell, cells}
 use Rattle.frame.specs.declared.stages.Stage.{Stage}
@@ -21,8 +20,8 @@ use Rattle.frame.proofs.Rectangle.{In}
 use Rattle.frame.proofs.Placed.{inside_at, outside_at, free_in, adds_cells}
 use Rattle.blocks.specs.declared.leads.Varblock.{Varblock}
 use Rattle.blocks.specs.Leads.{varblock}
-use Rattle.partition.specs.Parted.{covers, written, around, cells_of, Held, Within, Each, Parted}
-use Rattle.partition.proofs.Lists.{each_add, around_add, around_one, around_none, cells_add, Sides, covers_sides, sides_covers}
+use Rattle.partition.specs.Parted.{covers, around, cells_of, Held, Within, Parted}
+use Rattle.partition.proofs.Lists.{each_add, around_add, around_one, around_none, cells_add, covers_sides, sides_covers}
 
 -- what a placing writes is not empty
 pub stamp_taken : (kind mul i j : ℕ) → (stamp kind mul i j (cell Empty)).holds ≡ Empty → ⊥

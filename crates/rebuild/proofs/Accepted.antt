@@ -1,13 +1,12 @@
 -- What an accepted rebuild found.
-use Rattle.std.proofs.Common.{◌≡◌, ℕ, ◌+◌, ◌*◌, ◌<◌, ◌≤◌, Bool, true, false, ◌&&◌, leb, length, Ok, Err, sym, refl, ap, ◌∙◌, subst, arith}
+use Rattle.std.proofs.Common.{◌≡◌, ℕ, ◌*◌, ◌≤◌, Bool, true, ◌&&◌, length, Ok, sym, ap, ◌∙◌, subst, arith}
 use lib.Ieee.{Float}
 use Rattle.std.proofs.lemmas.Bool.{and_parts, leb-true}
 use Rattle.std.proofs.lemmas.Nat.{mul-le}
-use Rattle.grid.specs.declared.Shape.{Shape}
 use Rattle.grid.specs.declared.brush.Xyb.{Xyb}
 use Rattle.grid.specs.Plane.{Plane, fitting}
-use Rattle.grid.proofs.Sized.{Sized, sized_true, wide_enough}
-use Rattle.refusal.specs.Verdicts.{Verdict, and_then}
+use Rattle.grid.proofs.Sized.{sized_true, wide_enough}
+use Rattle.refusal.specs.Verdicts.{and_then}
 use Rattle.refusal.proofs.Rows.{and_ok, demand_ok}
 use Rattle.kinds.proofs.Sizes.{wide_is, high_is}
 use Rattle.varmap.specs.declared.cells.Cell.{Cell}

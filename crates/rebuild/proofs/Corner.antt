@@ -1,23 +1,22 @@
 -- The four steps on a block leave the block's image.
-use Rattle.std.proofs.Common.{◌≡◌, ℕ, ◌+◌, ◌-◌, ◌*◌, ◌<◌, ◌≤◌, Bool, true, false, cond, ◌&&◌, ltb, leb, ◌⊎◌, List, length, get_or, sym, refl, ap, ◌∙◌, subst, inl, inr, ⊎_elim, arith}
+use Rattle.std.proofs.Common.{◌≡◌, ℕ, ◌+◌, ◌-◌, ◌*◌, ◌<◌, ◌≤◌, Bool, true, false, cond, ◌&&◌, ltb, leb, ◌⊎◌, List, length, get_or, sym, ap, ◌∙◌, subst, inl, inr, arith}
 use mathlib.Core.Path.{fun_ext}
 use lib.Ieee.{Float, nan}
 use Rattle.std.proofs.lemmas.Bool.{cases_Bool, and_parts, ltb-true, lt-ltb, leb-true, and_from, cond-true, cond-false}
 use Rattle.std.proofs.lemmas.Bool.Decides.{nat_tests}
 use Rattle.grid.specs.declared.Shape.{Shape}
 use Rattle.grid.specs.declared.brush.Area.{Area}
-use Rattle.grid.specs.Index.{index, Inside, Lawful}
+use Rattle.grid.specs.Index.{index, Lawful}
 use Rattle.grid.specs.Painted.{painted, patch}
 use Rattle.grid.specs.Window.{window}
 use Rattle.grid.specs.Plane.{Plane, sample}
-use Rattle.grid.proofs.Laws.{painted_in, painted_alike, painted_twice, length_painted}
+use Rattle.grid.proofs.Laws.{painted_in, painted_alike, painted_twice}
 use Rattle.kinds.specs.Kinds.{wide, high}
-use Rattle.floats.specs.Arith.{over}
 use Rattle.dct_2d.specs.Plane.{Patch}
 use Rattle.blocks.specs.declared.leads.Varblock.{Varblock}
-use Rattle.blocks.specs.Blocks.{renewed, block, one_block}
-use Rattle.kernel.specs.Maps.{Maps, image_at, imaged}
-use Rattle.kernel.specs.Corner.{divisor, gathered, corner, cornered, block_image}
+use Rattle.blocks.specs.Blocks.{block, one_block}
+use Rattle.kernel.specs.Maps.{Maps, imaged}
+use Rattle.kernel.specs.Corner.{corner, cornered, block_image}
 use Rattle.rebuild.specs.Rebuilt.{lf_at, divided, lf_patch, rebuilding}
 
 module _ (s : Shape) (x y : ℕ) (xs : List Float) (l : Lawful s (length xs)) where

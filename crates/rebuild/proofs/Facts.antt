@@ -1,10 +1,10 @@
 -- The footprint and the flat fact of rebuild.
-use Rattle.std.proofs.Common.{◌≡◌, ℕ, ◌+◌, ◌-◌, ◌*◌, ◌/◌, ◌<◌, ◌≤◌, Bool, true, false, cond, ◌&&◌, ltb, ◌⊎◌, List, length, get_or, Some, None, Option, sym, refl, ap, ◌∙◌, subst, inl, inr, ⊎_elim, arith}
+use Rattle.std.proofs.Common.{◌≡◌, ℕ, ◌+◌, ◌-◌, ◌*◌, ◌/◌, ◌<◌, ◌≤◌, true, false, cond, ◌&&◌, ltb, ◌⊎◌, List, get_or, Some, None, Option, sym, refl, ap, ◌∙◌, subst, inl, inr, ⊎_elim, arith}
 use mathlib.Core.Path.{fun_ext}
 use lib.Ieee.{Float, nan}
 use Rattle.std.proofs.lemmas.Bool.{cases_Bool, and_parts, and_from, ltb-true, lt-ltb, cond-true, cond-false}
 use Rattle.grid.specs.declared.Shape.{Shape}
-use Rattle.grid.specs.Index.{index, Inside, Lawful}
+use Rattle.grid.specs.Index.{index}
 use Rattle.grid.specs.Window.{window}
 use Rattle.grid.specs.Plane.{Plane, sample}
 use Rattle.grid.proofs.Laws.{painted_in}

@@ -1,6 +1,6 @@
 -- Two facts on rebuild in one channel, over any maps of a kernel.
-use Rattle.std.specs.Prelude.{◌≡◌, ℕ, ◌+◌, ◌*◌, ◌/◌, ◌<◌, ◌≤◌, ◌⊎◌, List, length, ℤ, Some, Float}
-use Rattle.grid.specs.Index.{Lawful, Inside}
+use Rattle.std.specs.Prelude.{◌≡◌, ℕ, ◌+◌, ◌*◌, ◌/◌, ◌<◌, ◌≤◌, ◌⊎◌, length, ℤ, Some, Float}
+use Rattle.grid.specs.Index.{Lawful}
 use Rattle.grid.specs.Plane.{Plane, sample}
 use Rattle.kinds.specs.Kinds.{wide, high}
 use Rattle.floats.specs.Same.{Zero, Same, Modest}

@@ -1,5 +1,5 @@
 -- The footprints of the stages on LF samples: which numbers an LF sample depends on.
-use Rattle.std.proofs.Common.{◌≡◌, ℕ, ◌+◌, ◌-◌, ◌<◌, ◌≤◌, Bool, true, false, cond, ◌&&◌, ltb, leb, ◌⊎◌, ℤ, sym, refl, ap, ◌∙◌, inl, inr, ⊎_elim, arith}
+use Rattle.std.proofs.Common.{◌≡◌, ℕ, ◌+◌, ◌-◌, ◌<◌, ◌≤◌, true, false, ◌&&◌, ltb, leb, ◌⊎◌, ℤ, sym, ap, ◌∙◌, inl, inr, arith}
 use lib.Ieee.{Float, nan, binary32, add, mul, of_int}
 use Rattle.std.proofs.lemmas.Bool.{cases_Bool, cond-true, cond-false, and_parts, leb-true, ltb-true}
 use Rattle.grid.specs.declared.brush.Xyb.{Xyb}

@@ -1,9 +1,8 @@
 -- What rebuild and the HF stages make of grids that are the same but for some elements.
-use Rattle.std.proofs.Common.{◌≡◌, ℕ, zero, suc, ◌+◌, ◌-◌, ◌*◌, ◌/◌, ◌<◌, ◌≤◌, Bool, true, false, ◌⊎◌, ℤ, Some, None, Option, sym, refl, ap, ◌∙◌, subst, inl, inr, ⊎_elim, arith}
+use Rattle.std.proofs.Common.{◌≡◌, ℕ, zero, suc, ◌+◌, ◌-◌, ◌*◌, ◌/◌, ◌<◌, ◌≤◌, Bool, true, false, ◌⊎◌, ℤ, Some, None, Option, sym, refl, ◌∙◌, subst, inl, inr, ⊎_elim, arith}
 use lib.Ieee.{Float}
 use Rattle.std.proofs.lemmas.Bool.{cases_Bool, cases_lt, true≢false}
 use Rattle.grid.specs.Index.{Inside}
-use Rattle.grid.specs.Painted.{painted}
 use Rattle.grid.specs.Plane.{Plane, fitting, sample, numeral}
 use Rattle.kinds.specs.Kinds.{wide, high}
 use Rattle.kinds.proofs.Sizes.{wide_is, high_is}

@@ -1,13 +1,13 @@
 -- Two grids that are the same but for some elements, and what the stages on LF samples make of such grids.
-use Rattle.std.proofs.Common.{◌≡◌, ℕ, ◌+◌, ◌-◌, ◌<◌, ◌≤◌, Bool, true, false, ◌⊎◌, List, length, get_or, ℤ, sym, refl, ap, ◌∙◌, subst, inl, inr, ⊎_elim, arith}
+use Rattle.std.proofs.Common.{◌≡◌, ℕ, ◌+◌, ◌-◌, ◌<◌, ◌≤◌, Bool, true, false, ◌⊎◌, length, get_or, ℤ, sym, ap, ◌∙◌, subst, inl, inr, ⊎_elim, arith}
 use lib.Ieee.{Float, nan}
 use Rattle.std.proofs.lemmas.Bool.{cases_Bool, cases_eq, true≢false}
 use Rattle.grid.specs.declared.Shape.{Shape}
 use Rattle.grid.specs.declared.brush.Xyb.{Xyb}
-use Rattle.grid.specs.Index.{index, Inside, Lawful}
+use Rattle.grid.specs.Index.{index, Inside}
 use Rattle.grid.specs.Painted.{painted}
 use Rattle.grid.specs.Plane.{Plane, fitting, sample, numeral}
-use Rattle.grid.proofs.Laws.{length_painted, painted_in, painted_out}
+use Rattle.grid.proofs.Laws.{length_painted, painted_out}
 use Rattle.grid.proofs.Sized.{sized_true}
 use Rattle.lf.specs.Dequantise.{dequantised, lf_dequantised}
 use Rattle.lf.specs.Correlate.{correlated, lf_correlated}

@@ -1,5 +1,5 @@
 -- What calls answer and leave, one after the other.
-use Rattle.std.specs.Prelude.{ℕ, List, [], ◌∷◌, ◌++◌, Ok, Err, Float}
+use Rattle.std.specs.Prelude.{List, [], ◌∷◌, ◌++◌, Ok, Err, Float}
 use Rattle.grid.specs.declared.brush.Xyb.{Xyb}
 use Rattle.grid.specs.Plane.{Plane}
 use Rattle.refusal.specs.Verdicts.{Answer}

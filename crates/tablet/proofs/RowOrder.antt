@@ -7,7 +7,6 @@ use Rattle.grid.specs.declared.Shape.{Shape}
 use Rattle.grid.specs.Index.{index, Lawful}
 use Rattle.grid.specs.Window.{elements}
 use Rattle.grid.proofs.Laws.{is_painted}
-use Rattle.kinds.specs.Kinds.{wide}
 use Rattle.dct_2d.specs.Plane.{Patch}
 use Rattle.dct_2d.specs.Replaced.{poured, replaced}
 use Rattle.cells.specs.Cells.{cell}

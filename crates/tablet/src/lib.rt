@@ -1,4 +1,4 @@
-//! The crate kernel at the tablet's edge: one block as bytes, four to a number, lowest first.
+//! The crate kernel at the tablet's edge: one block as bytes, four to a number, lowest first. `tablet_c` exports it to C.
 
 #![tactic(auto)]
 
@@ -166,8 +166,7 @@ fn shape_of(kind: u32) -> Shape
 }
 
 /// How many bytes a block of this kind has; 0 for a kind that is not accepted.
-#[unsafe(no_mangle)]
-pub extern "C" fn vardct_block_bytes(kind: u32) -> usize
+pub fn vardct_block_bytes(kind: u32) -> usize
     ensures { result ≡ block_bytes kind }
 {
     let shape = shape_of(kind);
@@ -176,8 +175,7 @@ pub extern "C" fn vardct_block_bytes(kind: u32) -> usize
 
 /// The inverse of one block in row order, written over its bytes: 0; 5 for a kind that is not carried or has more than 16,384
 /// samples, and else 2 for a list of another length. No byte changes then. A NaN is written as 7FC00000 hexadecimal.
-#[unsafe(no_mangle)]
-pub extern "C" fn vardct_inverse(kind: u32, bytes: &mut [u8]) -> u32
+pub fn vardct_inverse(kind: u32, bytes: &mut [u8]) -> u32
     ensures answer { result ≡ answer kind (length bytes.old) }
     ensures bytes { bytes.new ≡ written kind bytes.old }
 {

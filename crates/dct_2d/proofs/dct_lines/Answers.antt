@@ -1,7 +1,6 @@
-use Rattle.std.proofs.Common.{◌≡◌, ℕ, ◌^◌, ◌<◌, List, map, length, sym, ap, ◌∙◌, subst, ap₂, arith}
+use Rattle.std.proofs.Common.{◌≡◌, ℕ, ◌<◌, List, map, length, ap, ◌∙◌, ap₂, arith}
 use lib.Ieee.{Float}
 use Rattle.std.specs.List.{range_with_len}
-use Rattle.grid.specs.Index.{Lawful}
 use Rattle.grid.specs.Painted.{painted}
 use Rattle.grid.specs.Window.{elements}
 use Rattle.dct_2d.specs.Lines.{fore, back, read_line, lined, drawn, lined_to}

@@ -1,5 +1,5 @@
 -- The lines below i are transformed.
-use Rattle.std.proofs.Common.{◌≡◌, ℕ, ◌^◌, length}
+use Rattle.std.proofs.Common.{◌≡◌, ℕ, ◌^◌}
 use Rattle.grid.specs.Painted.{painted}
 use Rattle.grid.specs.Window.{elements}
 use Rattle.dct_2d.specs.Lines.{back, lined, lined_to}

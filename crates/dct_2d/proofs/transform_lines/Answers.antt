@@ -1,4 +1,4 @@
-use Rattle.std.proofs.Common.{◌≡◌, ℕ, ◌^◌, ◌<◌, ◌≤◌, sym, refl, ap, ◌∙◌, subst, ap₂, arith}
+use Rattle.std.proofs.Common.{◌≡◌, ℕ, ◌^◌, ◌<◌, sym, ap, ◌∙◌, ap₂, arith}
 use Rattle.grid.specs.Window.{elements}
 use Rattle.floats.proofs.Powers.{pow_inj}
 use Rattle.dct_2d.specs.Plane.{plane}

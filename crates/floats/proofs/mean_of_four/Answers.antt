@@ -1,4 +1,4 @@
-use Rattle.std.proofs.Common.{◌≡◌, sym, refl, ap, subst, inl}
+use Rattle.std.proofs.Common.{sym, refl, ap, subst, inl}
 use lib.Ieee.{Float}
 use Rattle.floats.proofs.Exact.{over_four}
 use Rattle.floats.proofs.FourTimes.{plus_four_times}

@@ -1,7 +1,6 @@
-use Rattle.std.proofs.Common.{◌≡◌, ◌/◌, ◌%◌, ◌<◌, ◌≤◌, ◌⊎◌, sym, ap, ◌∙◌, subst, inl, inr, arith}
-use Rattle.std.proofs.lemmas.Bool.{cond-true, cond-false, eq-eqb, ne_eqb, cases_lt}
+use Rattle.std.proofs.Common.{inl, inr, arith}
 use Rattle.kinds.specs.Kinds.{found, size_of}
-use Rattle.kinds.proofs.Sizes.{one_cell, large_size, size_at, not_carried, side, size, large}
+use Rattle.kinds.proofs.Sizes.{one_cell, large_size, size_at, not_carried}
 use Rattle.std.proofs.lemmas.Bool.Decides.{nat_tests}
 use Rattle.kinds.proofs.kind_size.Goals as goal
 

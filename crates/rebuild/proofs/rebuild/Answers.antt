@@ -1,10 +1,9 @@
-use Rattle.std.proofs.Common.{◌≡◌, ℕ, ◌*◌, ◌≤◌, length, sym, refl, ap, ◌∙◌, arith, rules}
+use Rattle.std.proofs.Common.{◌≡◌, ℕ, ◌*◌, length, sym, ap, ◌∙◌, arith}
 use Rattle.std.proofs.lemmas.Bool.{true≢false}
 use Rattle.grid.specs.Plane.{viewed, lent}
 use Rattle.channels.specs.Channels.{planes, all_fit}
 use Rattle.varmap.specs.Cells.{cells}
-use Rattle.rebuild.specs.Answer.{lead_count}
-use Rattle.rebuild.proofs.Accepted.{Found, found, few_leads, answer_is}
+use Rattle.rebuild.proofs.Accepted.{found, few_leads, answer_is}
 use Rattle.rebuild.proofs.rebuild.Goals as goal
 
 pub rebuild_channels-count-requires : goal.rebuild_channels-count-requires

@@ -1,4 +1,3 @@
-use Rattle.grid.specs.Plane.{viewed, lent}
 use Rattle.rebuild.proofs.Accepted.{all_ready}
 use Rattle.rebuild.proofs.rebuild_channel.Goals as goal
 

@@ -1,4 +1,4 @@
-use Rattle.std.proofs.Common.{ℕ, sym, ◌∙◌, subst}
+use Rattle.std.proofs.Common.{sym, ◌∙◌, subst}
 use Rattle.grid.specs.Plane.{viewed, lent}
 use Rattle.rebuild.specs.Rebuilt.{Rebuildable}
 use Rattle.rebuild.proofs.rebuild_channels.Goals as goal

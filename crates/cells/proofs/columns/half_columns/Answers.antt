@@ -3,7 +3,7 @@ use lib.Ieee.{Float}
 use Rattle.dct.specs.declared.dct_common.DctDirection.TheVariants.{Inverse}
 use Rattle.dct_2d.specs.Plane.{line}
 use Rattle.dct.specs.Transform.{at}
-use Rattle.cells.specs.Cells.{cell, flipped}
+use Rattle.cells.specs.Cells.{cell}
 use Rattle.cells.specs.Passes.{halves}
 use Rattle.cells.proofs.Steps.{column_halves, columns_more, halves_all}
 use Rattle.cells.proofs.columns.half_columns.Goals as goal

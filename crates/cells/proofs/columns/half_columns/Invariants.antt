@@ -2,7 +2,7 @@ use Rattle.std.proofs.Common.{◌≡◌, ℕ, ◌+◌, ◌*◌, ◌/◌, ◌%◌
 use Rattle.dct.specs.declared.dct_common.DctDirection.TheVariants.{Inverse}
 use Rattle.dct_2d.specs.Plane.{line}
 use Rattle.dct.specs.Transform.{at}
-use Rattle.cells.specs.Cells.{cell, flipped}
+use Rattle.cells.specs.Cells.{cell}
 use Rattle.cells.proofs.columns.half_columns.Given as goal
 
 abbrev pub invariant-loop-x : goal.invariant-loop-x

@@ -1,9 +1,8 @@
 -- The small lengths are their definitions. From 8 on: the halves have half the length, and the whole is made from them.
-use Rattle.std.proofs.Common.{◌≡◌, ℕ, suc, ◌+◌, ◌-◌, ◌/◌, ◌^◌, ◌<◌, ◌≤◌, length, take, sym, refl, ap, ◌∙◌, subst, arith, length-take, pow_pos, rules}
-use Rattle.dct.specs.Secants.{secants}
+use Rattle.std.proofs.Common.{◌≡◌, ℕ, suc, ◌^◌, length, sym, ap, ◌∙◌, subst, arith, length-take, pow_pos, rules}
 use Rattle.dct.specs.Transform.{dct_of, evens, odd_sums, joined, means, slopes, interleaved}
 use Rattle.floats.proofs.Powers.{pow_inj}
-use Rattle.dct.proofs.Halves.{Large, large, secants_length, apart, one_of, two_forward, two_inverse, four_of, from_forward, from_inverse}
+use Rattle.dct.proofs.Halves.{large, secants_length, apart, one_of, two_forward, two_inverse, four_of, from_forward, from_inverse}
 use Rattle.dct.proofs.dct.+dct.Goals as goal
 use Rattle.dct.proofs.dct.+dct.Goals.{in-Forward-direction, in-Inverse-direction, in_default-via-then-io-lt4, in_default-via-else-io-lt4+else-io-lt5}
 

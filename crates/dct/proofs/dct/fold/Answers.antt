@@ -1,5 +1,5 @@
 -- A turn writes one more place of each half; after the last, each half is the list that its places say.
-use Rattle.std.proofs.Common.{◌≡◌, ℕ, ◌+◌, ◌-◌, length, sym, ap, ◌∙◌, arith}
+use Rattle.std.proofs.Common.{ℕ, ◌-◌, length, ap, ◌∙◌, arith}
 use lib.Ieee.{nan}
 use Rattle.std.proofs.lemmas.List.FromFn.{fill_by_all}
 use Rattle.floats.specs.Arith.{plus, minus, over, two}

@@ -1,4 +1,4 @@
-use Rattle.std.proofs.Common.{◌≡◌, ℕ, zero, suc, ◌^◌, ◌≤◌, true, false, refl, arith, lit≤}
+use Rattle.std.proofs.Common.{◌≡◌, ℕ, zero, suc, ◌^◌, ◌≤◌, refl, arith, lit≤}
 use Rattle.dct.proofs.dct.is_side.Goals as goal
 
 pub returns-in-1 : goal.returns-in-1

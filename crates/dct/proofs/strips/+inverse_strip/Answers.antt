@@ -1,11 +1,10 @@
 -- Eight rows are their definition. From 16 on: the halves have half the length, and the whole is made from them.
-use Rattle.std.proofs.Common.{◌≡◌, ℕ, suc, ◌+◌, ◌*◌, ◌/◌, ◌^◌, ◌<◌, ◌≤◌, List, length, sym, refl, ap, ◌∙◌, subst, ap₂, arith}
-use lib.Ieee.{Float}
+use Rattle.std.proofs.Common.{◌≡◌, ℕ, suc, ◌+◌, ◌/◌, length, sym, ap, ◌∙◌, ap₂, arith}
 use Rattle.floats.proofs.Powers.{pow_inj}
 use Rattle.dct.specs.Strips.{lanes}
 use Rattle.dct.specs.Transform.{idct}
 use Rattle.dct.proofs.Halves.{secants_length}
-use Rattle.dct.proofs.Lanes.{Halved, halved, idct_step}
+use Rattle.dct.proofs.Lanes.{halved, idct_step}
 use Rattle.dct.proofs.strips.+inverse_strip.Goals as goal
 
 pub even_rows-requires : goal.even_rows-requires

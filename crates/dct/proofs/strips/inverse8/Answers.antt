@@ -1,5 +1,5 @@
 -- The straight line is the definition, computed.
-use Rattle.std.proofs.Common.{◌≡◌, ℕ, ◌+◌, List, sym, ap, ◌∙◌, ap₂, zero-add}
+use Rattle.std.proofs.Common.{ℕ, ◌+◌, List, sym, ap, ◌∙◌, ap₂, zero-add}
 use lib.Ieee.{Float}
 use Rattle.dct.specs.Secants.{secants}
 use Rattle.dct.specs.Transform.{at, idct, inverse4, joined}

@@ -1,4 +1,4 @@
-use Rattle.std.proofs.Common.{◌≡◌, ℕ, List, refl, ap, ◌∙◌, arith}
+use Rattle.std.proofs.Common.{List, refl, ap, ◌∙◌, arith}
 use lib.Ieee.{Float}
 use Rattle.dct.specs.Strips.{lane, lanes}
 use Rattle.dct.specs.Transform.{at, idct}

@@ -1,5 +1,5 @@
 -- The lines below x are transformed, the others as they were.
-use Rattle.std.proofs.Common.{◌≡◌, ℕ, ◌<◌, ◌≤◌, length}
+use Rattle.std.proofs.Common.{◌≡◌, ℕ, ◌<◌, ◌≤◌}
 use Rattle.dct.specs.Strips.{lane, lanes}
 use Rattle.dct.specs.Transform.{at, idct}
 use Rattle.dct.proofs.strips.inverse8_lines.Given as goal

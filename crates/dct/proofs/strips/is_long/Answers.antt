@@ -1,4 +1,4 @@
-use Rattle.std.proofs.Common.{◌≡◌, ℕ, ◌≤◌, arith}
+use Rattle.std.proofs.Common.{◌≡◌, ℕ, arith}
 use Rattle.dct.proofs.Lanes.{long_from, long_eight}
 use Rattle.dct.proofs.strips.is_long.Goals as goal
 

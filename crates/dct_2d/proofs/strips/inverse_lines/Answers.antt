@@ -1,4 +1,4 @@
-use Rattle.std.proofs.Common.{◌≡◌, ℕ, ◌+◌, ◌*◌, ◌^◌, ◌≤◌, List, length, sym, ap, ◌∙◌, subst, ap₂, arith}
+use Rattle.std.proofs.Common.{◌≡◌, ℕ, ◌+◌, ◌*◌, ◌≤◌, List, sym, ap, ◌∙◌, subst, arith}
 use lib.Ieee.{Float}
 use Rattle.grid.specs.Index.{Lawful}
 use Rattle.grid.specs.Painted.{painted}
@@ -7,7 +7,6 @@ use Rattle.dct.specs.declared.dct_common.DctDirection.TheVariants.{Inverse}
 use Rattle.dct_2d.specs.Lines.{fore, back, read_line, lined, lined_to}
 use Rattle.dct_2d.specs.Plane.{Patch}
 use Rattle.dct.specs.Sides.{Long}
-use Rattle.dct.specs.Strips.{lane}
 use Rattle.dct_2d.specs.Drawn.{strip_drawn}
 use Rattle.dct_2d.proofs.Passes.{lined_none, lined_all}
 use Rattle.dct_2d.proofs.Stores.{strip_lined, strip_made, long_least, long_eights}

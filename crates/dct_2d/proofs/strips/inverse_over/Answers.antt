@@ -1,4 +1,4 @@
-use Rattle.std.proofs.Common.{◌≡◌, sym, subst, arith}
+use Rattle.std.proofs.Common.{sym, subst, arith}
 use Rattle.grid.specs.Index.{Lawful}
 use Rattle.dct.specs.declared.dct_common.DctDirection.TheVariants.{Inverse}
 use Rattle.dct_2d.proofs.Passes.{rows_columns}

@@ -1,4 +1,4 @@
-use Rattle.std.proofs.Common.{ap, ◌∙◌, arith}
+use Rattle.std.proofs.Common.{ap, ◌∙◌}
 use Rattle.grid.specs.Painted.{painted, patch}
 use Rattle.grid.specs.declared.brush.Area.{Area}
 use Rattle.grid.proofs.Patch.{patch_whole}

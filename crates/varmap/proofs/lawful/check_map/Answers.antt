@@ -1,4 +1,4 @@
-use Rattle.std.proofs.Common.{◌≡◌, Err, sym, ap, ◌∙◌, arith}
+use Rattle.std.proofs.Common.{Err, sym, ap, ◌∙◌, arith}
 use Rattle.grid.proofs.Sized.{sized_true}
 use Rattle.varmap.specs.Cells.{cells}
 use Rattle.varmap.specs.Map.{cell_ok, map_checked}
