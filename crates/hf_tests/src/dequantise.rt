@@ -268,7 +268,7 @@ fn floats(rt: HostRuntime) {
     let mut t = good();
     t.by.qm_scale.b = 0.0;
     assert_eq!(rt; call(t).answer, (9, 0, 0, 0), "qm 0");
-    t.by.qm_scale.b = 1.0e_45;
+    t.by.qm_scale.b = 1.0e-45;
     assert_eq!(rt; call(t).answer, OK, "qm least");
     t.by.qm_scale.b = 16.000002;
     assert_eq!(rt; call(t).answer, (9, 0, 0, 0), "qm above 16");
