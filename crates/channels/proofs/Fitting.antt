@@ -15,8 +15,8 @@ use Rattle.channels.specs.Ranges.{in_range_at, range_checked}
 pub fits_three : {A : Type 0} (w h : ℕ) (p : Xyb (Plane A)) → all_fit w h p ≡ true
     → (fitting w h p.x ≡ true) × (fitting w h p.y ≡ true) × (fitting w h p.b ≡ true)
 fits_three w h p e =
-    let a = and_parts (fitting w h p.x && fitting w h p.y) (fitting w h p.b) e in
-    let b = and_parts (fitting w h p.x) (fitting w h p.y) a.0 in (b.0, b.1, a.1)
+    let outer = and_parts (fitting w h p.x && fitting w h p.y) (fitting w h p.b) e in
+    let b = and_parts (fitting w h p.x) (fitting w h p.y) outer.0 in (b.0, b.1, outer.1)
 
 pub fits_lawful : {A : Type 0} (w h : ℕ) (p : Plane A) → fitting w h p ≡ true → Lawful p.shape (length p.list)
 fits_lawful w h p f = (sized_true w h p.shape (length p.list) f).lawful

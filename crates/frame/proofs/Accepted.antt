@@ -38,11 +38,11 @@ module _ (w8 h8 : ℕ) (st : Stage) (s : Shape) (xs : List Cell) (kind x y mul :
   unfolding free_checked
   from_kind turn fits lawful None q e = let bad : ◌≡◌ {A = ℕ} 0 1 = cc in absurd (omega arith)
   from_kind turn fits lawful (Some v) q e =
-      let a = and_ok _ _ _ e in
-      let b = and_ok _ _ _ a.1 in
+      let place_row = and_ok _ _ _ e in
+      let b = and_ok _ _ _ place_row.1 in
       let c = and_ok _ _ _ b.1 in
       let same = ok_same v z c.1 in
-      let inside = and_parts (leb (x + v.width) w8) (leb (y + v.height) h8) (demand_ok _ _ a.0) in
+      let inside = and_parts (leb (x + v.width) w8) (leb (y + v.height) h8) (demand_ok _ _ place_row.0) in
       let bounds = size_bounded kind v q in
       subst (Accepted w8 h8 st s xs kind x y mul) same
       (record {
@@ -58,8 +58,8 @@ module _ (w8 h8 : ℕ) (st : Stage) (s : Shape) (xs : List Cell) (kind x y mul :
 
   pub accepted : place_judged w8 h8 st s xs kind x y mul ≡ Ok z → Accepted w8 h8 st s xs kind x y mul z
   accepted e =
-      let a = and_ok _ _ _ e in
-      let b = and_ok _ _ _ a.1 in
+      let turn_row = and_ok _ _ _ e in
+      let b = and_ok _ _ _ turn_row.1 in
       let c = and_ok _ _ _ b.1 in
       let fits = sized_true w8 h8 s (length xs) (demand_ok _ _ b.0) in
-      from_kind (demand_ok _ _ a.0) fits (passed_lawful w8 h8 _ (wide_enough _ _ _ _ fits) c.0) (size_of kind) refl c.1
+      from_kind (demand_ok _ _ turn_row.0) fits (passed_lawful w8 h8 _ (wide_enough _ _ _ _ fits) c.0) (size_of kind) refl c.1

@@ -7,12 +7,12 @@ use Rattle.grid.specs.Index.{Lawful, lawful, sized}
 pub lawful_true : (s : Shape) (n : ℕ) → lawful s n ≡ true → Lawful s n
 unfolding lawful
 lawful_true s n e =
-    let a = and_parts (leb 1 s.width) _ e in
-    let b = and_parts (leb 1 s.height) _ a.1 in
+    let outer = and_parts (leb 1 s.width) _ e in
+    let b = and_parts (leb 1 s.height) _ outer.1 in
     let c = and_parts (leb s.width s.stride) _ b.1 in
     let d = and_parts (leb s.stride 65536) _ c.1 in
     record {
-      wide = leb-true _ _ a.0;
+      wide = leb-true _ _ outer.0;
       tall = leb-true _ _ b.0;
       within = leb-true _ _ c.0;
       small = leb-true _ _ d.0;
@@ -44,9 +44,9 @@ pub record Sized (w h : ℕ) (s : Shape) (n : ℕ) : Type 0 where
 pub sized_true : (w h : ℕ) (s : Shape) (n : ℕ) → sized w h s n ≡ true → Sized w h s n
 unfolding sized
 sized_true w h s n e =
-    let a = and_parts (eqb s.width w && eqb s.height h) (lawful s n) e in
-    let b = and_parts (eqb s.width w) (eqb s.height h) a.0 in
-    record { width = eqb-true _ _ b.0; height = eqb-true _ _ b.1; lawful = lawful_true s n a.1 }
+    let outer = and_parts (eqb s.width w && eqb s.height h) (lawful s n) e in
+    let b = and_parts (eqb s.width w) (eqb s.height h) outer.0 in
+    record { width = eqb-true _ _ b.0; height = eqb-true _ _ b.1; lawful = lawful_true s n outer.1 }
 
 pub wide_enough : (w h : ℕ) (s : Shape) (n : ℕ) → Sized w h s n → 1 ≤ w
 wide_enough w h s n z = omega (arith, z.lawful.wide, z.width)

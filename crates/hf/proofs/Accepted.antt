@@ -39,10 +39,10 @@ pub record Shapes (w8 h8 : ℕ) (samples : Bool) (map : Plane Cell) (n : Xyb (Pl
 pub shapes : (w8 h8 : ℕ) (samples : Bool) (map : Plane Cell) (n : Xyb (Plane ℤ)) (t : Xyb Table)
     → (((samples && fitting w8 h8 map) && all_fit (8 * w8) (8 * h8) n) && starts_full t) ≡ true → Shapes w8 h8 samples map n t
 shapes w8 h8 samples map n t e =
-    let a = and_parts ((samples && fitting w8 h8 map) && all_fit (8 * w8) (8 * h8) n) (starts_full t) e in
-    let b = and_parts (samples && fitting w8 h8 map) (all_fit (8 * w8) (8 * h8) n) a.0 in
+    let outer = and_parts ((samples && fitting w8 h8 map) && all_fit (8 * w8) (8 * h8) n) (starts_full t) e in
+    let b = and_parts (samples && fitting w8 h8 map) (all_fit (8 * w8) (8 * h8) n) outer.0 in
     let c = and_parts samples (fitting w8 h8 map) b.0 in
-    let s = and_parts (starts_ok t.x && starts_ok t.y) (starts_ok t.b) a.1 in
+    let s = and_parts (starts_ok t.x && starts_ok t.y) (starts_ok t.b) outer.1 in
     let u = and_parts (starts_ok t.x) (starts_ok t.y) s.0 in
     record {
       outs = c.0;

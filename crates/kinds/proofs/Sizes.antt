@@ -82,8 +82,8 @@ found_bounded k [] z t e = absurd (let n : ◌≡◌ {A = ℕ} 0 1 = cc in omega
 found_bounded k (d ∷ es) z t e =
     let p = and_parts (bounded d) (all bounded es) t in
     let q = and_parts (leb 1 d.width && leb d.width 32) (leb 1 d.height && leb d.height 32) p.0 in
-    let a = and_parts (leb 1 d.width) (leb d.width 32) q.0 in
-    let b = and_parts (leb 1 d.height) (leb d.height 32) q.1 in
+    let horizontal = and_parts (leb 1 d.width) (leb d.width 32) q.0 in
+    let vertical = and_parts (leb 1 d.height) (leb d.height 32) q.1 in
     ⊎_elim
     (λ (h : eqb k d.kind ≡ true).
     let s : Some (size d.width d.height) ≡ Some z =
@@ -91,10 +91,10 @@ found_bounded k (d ∷ es) z t e =
     let r : size d.width d.height ≡ z = cc in
     subst Bounded r
     (record {
-      wide = leb-true 1 d.width a.0;
-      narrow = leb-true d.width 32 a.1;
-      high = leb-true 1 d.height b.0;
-      low = leb-true d.height 32 b.1;
+      wide = leb-true 1 d.width horizontal.0;
+      narrow = leb-true d.width 32 horizontal.1;
+      high = leb-true 1 d.height vertical.0;
+      low = leb-true d.height 32 vertical.1;
     }))
     (λ h.
     found_bounded k es z p.1

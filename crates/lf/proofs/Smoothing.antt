@@ -45,9 +45,9 @@ pub record Inner (w h x y : ℕ) : Type 0 where
 pub inner_true : (w h x y : ℕ) → inner w h x y ≡ true → Inner w h x y
 inner_true w h x y e =
     let p = and_parts (leb 1 x && ltb (x + 1) w) (leb 1 y && ltb (y + 1) h) e in
-    let a = and_parts (leb 1 x) (ltb (x + 1) w) p.0 in
-    let b = and_parts (leb 1 y) (ltb (y + 1) h) p.1 in
-    record { left = leb-true _ _ a.0; right = ltb-true _ _ a.1; top = leb-true _ _ b.0; bottom = ltb-true _ _ b.1 }
+    let horizontal = and_parts (leb 1 x) (ltb (x + 1) w) p.0 in
+    let vertical = and_parts (leb 1 y) (ltb (y + 1) h) p.1 in
+    record { left = leb-true _ _ horizontal.0; right = ltb-true _ _ horizontal.1; top = leb-true _ _ vertical.0; bottom = ltb-true _ _ vertical.1 }
 
 pub around : (w h : ℕ) (p : Plane Float) (a b x y : ℕ) → fitting w h p ≡ true → a ≤ x → x + a < w → b ≤ y → y + b < h → Around p a b x y
 around w h p a b x y f left right top bottom =

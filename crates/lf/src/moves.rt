@@ -158,14 +158,15 @@ impl<'x, 'y, 'b> Brush<f32> for Share<'x, 'y, 'b> {
 
     fn stroke(&self, i: usize, j: usize, _old: f32) -> f32 {
         let (x, y) = (i + 1, j + 1);
-        let gap_x = larger(0.5, gap(self.steps.x, sample_at(self.x, x, y)));
-        let gap_y = larger(gap_x, gap(self.steps.y, sample_at(self.y, x, y)));
-        let gap = larger(gap_y, gap(self.steps.b, change(self.b, x, y)));
-        larger(3.0 - 4.0 * gap, 0.0)
+        let x_gap = gap(self.steps.x, sample_at(self.x, x, y));
+        let y_gap = gap(self.steps.y, sample_at(self.y, x, y));
+        let b_gap = gap(self.steps.b, change(self.b, x, y));
+        let most_gap = larger(larger(larger(0.5, x_gap), y_gap), b_gap);
+        larger(3.0 - 4.0 * most_gap, 0.0)
     }
 }
 
-/// The larger of two; the first of two that compare equal, as zeros of either sign do; the other where one is NaN.
+/// The larger of two: the first where they compare equal, the other where one is NaN.
 fn larger(a: f32, b: f32) -> f32
     ensures { result ≡ float_max a b }
 {

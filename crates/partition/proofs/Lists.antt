@@ -67,9 +67,9 @@ pub record Sides (v : Varblock) (x y : ℕ) : Type 0 where
 pub covers_sides : (v : Varblock) (x y : ℕ) → covers v x y ≡ true → Sides v x y
 covers_sides v x y e =
     let p = and_parts (leb v.x x && ltb x (v.x + wide v.kind)) (leb v.y y && ltb y (v.y + high v.kind)) e in
-    let a = and_parts (leb v.x x) (ltb x (v.x + wide v.kind)) p.0 in
-    let b = and_parts (leb v.y y) (ltb y (v.y + high v.kind)) p.1 in
-    record { left = leb-true _ _ a.0; right = ltb-true _ _ a.1; top = leb-true _ _ b.0; bottom = ltb-true _ _ b.1 }
+    let horizontal = and_parts (leb v.x x) (ltb x (v.x + wide v.kind)) p.0 in
+    let vertical = and_parts (leb v.y y) (ltb y (v.y + high v.kind)) p.1 in
+    record { left = leb-true _ _ horizontal.0; right = ltb-true _ _ horizontal.1; top = leb-true _ _ vertical.0; bottom = ltb-true _ _ vertical.1 }
 
 pub sides_covers : (v : Varblock) (x y : ℕ) → Sides v x y → covers v x y ≡ true
 sides_covers v x y s =

@@ -36,8 +36,8 @@ pub record Accepted (w8 h8 : ℕ) (fit : Bool) (map : Plane Cell) (lf : Xyb (Pla
 pub accepted : (w8 h8 : ℕ) (st : Stage) (fit : Bool) (map : Plane Cell) (lf : Xyb (Plane Float)) (room : ℕ)
     → rebuild_judged w8 h8 st fit map lf room ≡ Ok tt → Accepted w8 h8 fit map lf room
 accepted w8 h8 st fit map lf room e =
-    let a = and_ok _ _ _ e in
-    let b = and_ok _ _ _ a.1 in
+    let turn_row = and_ok _ _ _ e in
+    let b = and_ok _ _ _ turn_row.1 in
     let c = and_ok _ _ _ b.1 in
     let s = and_parts (fit && fitting w8 h8 map) (all_fit w8 h8 lf) (demand_ok _ _ b.0) in
     let t = and_parts fit (fitting w8 h8 map) s.0 in

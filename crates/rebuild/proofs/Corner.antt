@@ -31,12 +31,12 @@ module _ (s : Shape) (x y : ℕ) (xs : List Float) (l : Lawful s (length xs)) wh
           → patch x y w h (λ i j _. f i j) p q old ≡ patch x y w h (λ i j _. g i j) p q old
       at p q old (inl t) =
           let r = and_parts (leb x p && ltb p (x + w)) (leb y q && ltb q (y + h)) t in
-          let a = and_parts (leb x p) (ltb p (x + w)) r.0 in
-          let b = and_parts (leb y q) (ltb q (y + h)) r.1 in
-          let a0 = leb-true _ _ a.0 in
-          let a1 = ltb-true _ _ a.1 in
-          let b0 = leb-true _ _ b.0 in
-          let b1 = ltb-true _ _ b.1 in
+          let horizontal = and_parts (leb x p) (ltb p (x + w)) r.0 in
+          let vertical = and_parts (leb y q) (ltb q (y + h)) r.1 in
+          let a0 = leb-true _ _ horizontal.0 in
+          let a1 = ltb-true _ _ horizontal.1 in
+          let b0 = leb-true _ _ vertical.0 in
+          let b1 = ltb-true _ _ vertical.1 in
           ap (λ v. cond ((leb x p && ltb p (x + w)) && (leb y q && ltb q (y + h))) v old) (e (p - x) (q - y) (omega arith) (omega arith))
       at p q old (inr t) = cond-false _ (f (p - x) (q - y)) old t ∙ sym (cond-false _ (g (p - x) (q - y)) old t)
 

@@ -36,8 +36,8 @@ accepted_parts k e = let p = and_parts (ltb k 24) (leb 1 (wide k)) e in (ltb-tru
 sizes : (k : ℕ) → k < 24 → (4 * numbers k ≡ block_bytes k) × (numbers k ≤ 16384)
 sizes k l =
     let t = and_parts (eqb (4 * numbers k) (block_bytes k) && leb (numbers k) 16384) _ (by_test stands 24 all_stand k l) in
-    let a = and_parts (eqb (4 * numbers k) (block_bytes k)) (leb (numbers k) 16384) t.0 in
-    (eqb-true (4 * numbers k) (block_bytes k) a.0, leb-true (numbers k) 16384 a.1)
+    let both = and_parts (eqb (4 * numbers k) (block_bytes k)) (leb (numbers k) 16384) t.0 in
+    (eqb-true (4 * numbers k) (block_bytes k) both.0, leb-true (numbers k) 16384 both.1)
 
 pub record Sound (k : ℕ) : Type 0 where
   pub lengths : listed (block_bytes k) ≡ true

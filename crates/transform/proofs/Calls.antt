@@ -19,8 +19,8 @@ use Rattle.transform.specs.Sides.{side_is, Sides, carried_sides}
 
 pub forward_ready : (s : Shape) (n room : ℕ) → forwards s n room ≡ true → Ready (log2 s.width) (log2 s.height) s n room
 forward_ready s n room t =
-    let a = and_parts (lawful s n && (side s.width && side s.height)) (leb 512 room) t in
-    let b = and_parts (lawful s n) (side s.width && side s.height) a.0 in
+    let outer = and_parts (lawful s n && (side s.width && side s.height)) (leb 512 room) t in
+    let b = and_parts (lawful s n) (side s.width && side s.height) outer.0 in
     let d = and_parts (side s.width) (side s.height) b.1 in
     let w = side_is s.width d.0 in
     let h = side_is s.height d.1 in
@@ -30,7 +30,7 @@ forward_ready s n room t =
       width = w.power;
       height = h.power;
       lawful = lawful_true s n b.0;
-      room = leb-true 512 room a.1;
+      room = leb-true 512 room outer.1;
     }
 
 pub forward_works : (fwd : ℕ → ℕ → Patch → Patch) (s : Shape) (room : ℕ) (xs ys : List Float) → forwards s (length xs) room ≡ true
@@ -63,8 +63,8 @@ carried kind l = go (size_of kind) refl
 
 pub is_block : (kind : ℕ) (s : Shape) (n room : ℕ) → inverts kind s n room ≡ true → Block kind s n room
 is_block kind s n room t =
-    let a = and_parts (sized (8 * wide kind) (8 * high kind) s n) (leb 512 room) t in
-    let z = sized_true (8 * wide kind) (8 * high kind) s n a.0 in
+    let outer = and_parts (sized (8 * wide kind) (8 * high kind) s n) (leb 512 room) t in
+    let z = sized_true (8 * wide kind) (8 * high kind) s n outer.0 in
     let e = z.width in
     let l = z.lawful.wide in
     record {
@@ -72,7 +72,7 @@ is_block kind s n room t =
       width = z.width;
       height = z.height;
       lawful = z.lawful;
-      enough = leb-true 512 room a.1;
+      enough = leb-true 512 room outer.1;
     }
 
 -- a block of a plain DCT

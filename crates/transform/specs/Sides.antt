@@ -33,9 +33,9 @@ sound n =
 
 sound_side : (n : ℕ) → sound n ≡ true → Side n
 sound_side n t =
-    let a = and_parts (nat_le (log2 n) 5 && n == 2 ^ log2 n) (log2 (8 * n) == log2 n + 3 && 8 * n == 2 ^ (log2 n + 3)) t in
-    let b = and_parts (nat_le (log2 n) 5) (n == 2 ^ log2 n) a.0 in
-    let c = and_parts (log2 (8 * n) == log2 n + 3) (8 * n == 2 ^ (log2 n + 3)) a.1 in
+    let outer = and_parts (nat_le (log2 n) 5 && n == 2 ^ log2 n) (log2 (8 * n) == log2 n + 3 && 8 * n == 2 ^ (log2 n + 3)) t in
+    let b = and_parts (nat_le (log2 n) 5) (n == 2 ^ log2 n) outer.0 in
+    let c = and_parts (log2 (8 * n) == log2 n + 3) (8 * n == 2 ^ (log2 n + 3)) outer.1 in
     record { low = leb-true _ _ b.0; power = eqb-true _ _ b.1; more = eqb-true _ _ c.0; block = eqb-true _ _ c.1 }
 
 -- ---- the sides that a forward call takes
