@@ -1,5 +1,5 @@
 -- The walk: the samples of the varblocks whose lead has a number below n are done.
-use Rattle.std.proofs.Common.{◌≡◌, ℕ, ◌+◌, ◌-◌, ◌*◌, ◌/◌, ◌%◌, ◌<◌, ◌≤◌, Bool, true, false, cond, ◌&&◌, ltb, leb, ◌⊎◌, List, length, get_or, Some, None, Option, sym, refl, ap, ◌∙◌, subst, inl, inr, ⊎_elim, mul_comm, arith}
+use Rattle.std.proofs.Common.{◌≡◌, ℕ, zero, suc, ◌+◌, ◌-◌, ◌*◌, ◌/◌, ◌%◌, ◌<◌, ◌≤◌, Bool, true, false, cond, ◌&&◌, ltb, leb, ◌⊎◌, List, [], ◌∷◌, ◌++◌, length, get_or, Some, None, Option, sym, refl, ap, ◌∙◌, subst, inl, inr, ⊎_elim, mul_comm, arith}
 use mathlib.Core.Path.{fun_ext}
 use lib.Ieee.{Float, nan}
 use Rattle.std.proofs.lemmas.Bool.{cases_lt, cases_eq, cases_Bool, and_parts, leb-true, ltb-true, lt-ltb, le-ltb, cond-true, cond-false}
@@ -13,20 +13,15 @@ use Rattle.grid.proofs.Laws.{painted_in, painted_none, painted_alike, painted_tw
 use Rattle.kinds.specs.Kinds.{wide, high}
 use Rattle.kinds.proofs.Sizes.{wide_is, high_is}
 use Rattle.varmap.specs.declared.cells.Record.{Record}
-use Rattle.varmap.specs.declared.cells.Record.TheVariants.{Lead}
 use Rattle.blocks.specs.declared.leads.Varblock.{Varblock}
 use Rattle.varmap.specs.Map.{LawfulMap}
-use Rattle.blocks.specs.Leads.{leads_to, lead_at, number, NoLeads, holder}
-use Rattle.blocks.proofs.Holders.{Whole, holds, held}
+use Rattle.blocks.specs.Leads.{lead_at, number, NoLeads, one_or_none, leads, holder}
+use Rattle.blocks.specs.Walk.{leads_from}
+use Rattle.blocks.proofs.Numbering.{lead_back}
+use Rattle.blocks.proofs.Counting.{from_first}
+use Rattle.blocks.proofs.Steps.{at_number}
+use Rattle.blocks.proofs.Holders.{Whole, whole, holds, held}
 use Rattle.blocks.specs.Blocks.{Image, block, renewed, one_block, of_block, imaged, by_blocks}
-
--- the number of a lead leads back to it
-pub lead_back : (w : ℕ) (m : ℕ → ℕ → Record) (v : Varblock) → v.x < w → m v.x v.y ≡ Lead v.kind v.hf_mul
-    → lead_at w m (number w v) ≡ Some v
-lead_back w m v a e =
-    ap (λ x. leads_to x (number w v / w) (m x (number w v / w))) (mod-mul-add v.y w v.x a)
-    ∙ ap (λ y. leads_to v.x y (m v.x y)) (div-mul-add v.y w v.x a)
-    ∙ ap (leads_to v.x v.y) e
 
 same_number : (w : ℕ) (u v : Varblock) → u.x < w → v.x < w → number w u ≡ number w v → (u.x ≡ v.x) × (u.y ≡ v.y)
 same_number w u v a b e = (
@@ -253,3 +248,44 @@ module _ (s : Shape) (w h : ℕ) (m : ℕ → ℕ → Record) (image : Image) (x
               let bad : ◌≡◌ {A = ℕ} 0 1 = grind (arith, nat_tests) in
               omega arith)
               (holder m (p / 8) (q / 8)) refl)
+
+-- the blocks of these varblocks are replaced by their images, one after the other
+abbrev pub each_done : Shape → Image → List Varblock → List Float → List Float
+each_done s image [] xs = xs
+each_done s image (v ∷ vs) xs = each_done s image vs (one_block s image v xs)
+
+module _ (s : Shape) (w h : ℕ) (m : ℕ → ℕ → Record) (image : Image) (xs : List Float)
+    (l : Lawful s (length xs)) (width : s.width ≡ 8 * w) (height : s.height ≡ 8 * h) (lawful : LawfulMap w h m) where
+  abbrev done : ℕ → List Float
+  done n = painted s (upto s w h m image xs n) xs
+
+  -- the cells from number k on
+  done_from : (d k : ℕ) → k + d ≤ w * h → each_done s image (leads_from w m d k) (done k) ≡ done (k + d)
+  unfolding leads_from
+  done_from zero k le = ap done (omega arith)
+  done_from (suc d) k le =
+      let there : suc k + d ≡ k + suc d = omega arith in
+      go (lead_at w m k) refl ∙ done_from d (suc k) (omega arith) ∙ ap done there
+    where
+      go : (o : Option Varblock) → lead_at w m k ≡ o
+          → each_done s image (one_or_none o ++ leads_from w m d (suc k)) (done k) ≡ each_done s image (leads_from w m d (suc k)) (done (suc k))
+      go None e =
+          ap (each_done s image (leads_from w m d (suc k)))
+          (upto_skip s w h m image xs l width height lawful k (suc k) (omega arith)
+          (λ i p q. let same : i ≡ k = omega arith in subst (λ j. lead_at w m j ≡ None) (sym same) e))
+      go (Some v) e =
+          let tall = l.wide in
+          let here = at_number w h m (omega arith) k v (omega arith) e in
+          let next : number w v + 1 ≡ suc k = omega (arith, here.0) in
+          ap (λ i. each_done s image (leads_from w m d (suc k)) (one_block s image v (done i))) (sym here.0)
+          ∙ ap (each_done s image (leads_from w m d (suc k)))
+          (upto_more s w h m image xs l width height lawful v (whole w h m lawful v here.1) here.1.across ∙ ap done next)
+
+  -- all varblocks of the map, one after the other
+  pub by_each : each_done s image (leads w h m) xs ≡ by_blocks s m image xs
+  by_each =
+      ap (λ vs. each_done s image vs xs) (sym (from_first w h m))
+      ∙ ap (each_done s image (leads_from w m (w * h) 0)) (upto_none s w h m image xs l width height lawful)
+      ∙ done_from (w * h) 0 (omega arith)
+      ∙ ap done (omega arith)
+      ∙ upto_all s w h m image xs l width height lawful (w * h) (omega arith) (λ i p q. absurd (omega arith))

@@ -1,46 +1,17 @@
--- The list of leads, as a walk goes through the cells.
-use Rattle.std.proofs.Common.{◌≡◌, ℕ, zero, suc, ◌+◌, ◌-◌, ◌*◌, ◌/◌, ◌≤◌, [], ◌∷◌, ◌++◌, length, Some, None, Option, sym, ap, ◌∙◌, subst, add-one, arith}
+-- The list of leads.
+use Rattle.std.proofs.Common.{◌≡◌, ℕ, zero, suc, ◌+◌, ◌-◌, ◌*◌, ◌≤◌, ◌++◌, length, Some, None, Option, sym, ap, ◌∙◌, append_assoc, arith}
 use Rattle.std.proofs.lemmas.List.{append-nil, length-append}
-use Rattle.std.proofs.lemmas.Nat.{div-mul-add, mod-mul-add}
+use Rattle.std.proofs.lemmas.Nat.{mul-le}
+use Rattle.grid.specs.declared.Shape.{Shape}
+use Rattle.grid.specs.Index.{Lawful}
 use Rattle.varmap.specs.declared.cells.Record.{Record}
+use Rattle.varmap.specs.declared.map.Map.{Map}
 use Rattle.blocks.specs.declared.leads.Varblock.{Varblock}
-use Rattle.blocks.specs.Leads.{leads_to, lead_at, number, NoLeads, FirstLead, one_or_none, leads_among, leads}
+use Rattle.blocks.specs.Leads.{lead_at, one_or_none, leads_among, leads}
+use Rattle.blocks.specs.Walk.{records, leads_of, leads_from, rest}
+use Rattle.blocks.proofs.Numbering.{area_le}
 
 module _ (w : ℕ) (m : ℕ → ℕ → Record) where
-  among_suc : (n : ℕ) → lead_at w m n ≡ None → leads_among w m (suc n) ≡ leads_among w m n
-  unfolding leads_among
-  among_suc n none = ap (λ o. leads_among w m n ++ one_or_none o) none ∙ append-nil (leads_among w m n)
-
-  -- cells that are no leads add none
-  pub among_skip : (a d : ℕ) → NoLeads w m a (a + d) → leads_among w m (a + d) ≡ leads_among w m a
-  among_skip a zero none = ap (leads_among w m) (omega arith)
-  among_skip a (suc d) none =
-      let e : a + suc d ≡ suc (a + d) = omega arith in
-      ap (leads_among w m) e
-      ∙ among_suc (a + d) (none (a + d) (omega arith) (omega arith))
-      ∙ among_skip a d (λ k p q. none k p (omega arith))
-
-  -- a lead adds itself
-  pub among_more : (n a : ℕ) (v : Varblock) → FirstLead w n m a v → leads_among w m (number w v + 1) ≡ leads_among w m a ++ (v ∷ [])
-  unfolding leads_among
-  among_more n a v f =
-      let from = f.from in
-      let e : a + (number w v - a) ≡ number w v = omega arith in
-      let skip : leads_among w m (number w v) ≡ leads_among w m a =
-      subst (λ k. leads_among w m k ≡ leads_among w m a) e (among_skip a (number w v - a) (subst (NoLeads w m a) (sym e) f.first)) in
-      ap (leads_among w m) (add-one (number w v))
-      ∙ ap (λ xs. xs ++ one_or_none (lead_at w m (number w v))) skip
-      ∙ ap (λ o. leads_among w m a ++ one_or_none o) here
-    where
-      here : lead_at w m (number w v) ≡ Some v
-      here =
-          ap (λ x. leads_to x (number w v / w) (m x (number w v / w))) (mod-mul-add v.y w v.x f.across)
-          ∙ ap (λ y. leads_to v.x y (m v.x y)) (div-mul-add v.y w v.x f.across)
-          ∙ ap (leads_to v.x v.y) f.lead
-
-  pub count_more : (n a : ℕ) (v : Varblock) → FirstLead w n m a v → length (leads_among w m (number w v + 1)) ≡ length (leads_among w m a) + 1
-  count_more n a v f = ap length (among_more n a v f) ∙ length-append (leads_among w m a) (v ∷ [])
-
   -- there are no more leads than cells
   pub count_below : (n : ℕ) → length (leads_among w m n) ≤ n
   unfolding leads_among
@@ -54,9 +25,35 @@ module _ (w : ℕ) (m : ℕ → ℕ → Record) where
       one None = omega arith
       one (Some v) = omega arith
 
--- the walk's end
-pub count_all : (w h : ℕ) (m : ℕ → ℕ → Record) (a : ℕ) → a ≤ w * h → NoLeads w m a (w * h) → length (leads_among w m a) ≡ length (leads w h m)
+  -- the leads among the first cells, and those from there on
+  pub among_from : (n k : ℕ) → leads_among w m k ++ leads_from w m n k ≡ leads_among w m (k + n)
+  unfolding leads_among leads_from
+  among_from zero k =
+      let e : k ≡ k + 0 = omega arith in
+      append-nil (leads_among w m k) ∙ ap (leads_among w m) e
+  among_from (suc n) k =
+      let e : suc k + n ≡ k + suc n = omega arith in
+      sym (append_assoc (leads_among w m k) (one_or_none (lead_at w m k)) (leads_from w m n (suc k)))
+      ∙ among_from n (suc k)
+      ∙ ap (leads_among w m) e
+
+-- from the first cell on, they are all
+pub from_first : (w h : ℕ) (m : ℕ → ℕ → Record) → leads_from w m (w * h) 0 ≡ leads w h m
+unfolding leads leads_among
+from_first w h m =
+    let e : 0 + w * h ≡ w * h = omega arith in
+    among_from w m (w * h) 0 ∙ ap (leads_among w m) e
+
+-- there are no more leads than samples
+pub leads_below : (w h : ℕ) (m : ℕ → ℕ → Record) (s : Shape) (n : ℕ) → Lawful s n → s.width ≡ 8 * w → s.height ≡ 8 * h → length (leads w h m) ≤ n
 unfolding leads
-count_all w h m a l none =
-    let e : a + (w * h - a) ≡ w * h = omega arith in
-    ap length (sym (subst (λ k. leads_among w m k ≡ leads_among w m a) e (among_skip w m a (w * h - a) (subst (NoLeads w m a) (sym e) none))))
+leads_below w h m s n l width height =
+    omega (arith, count_below w m (w * h), mul-le w h s.width s.height (omega arith) (omega arith), area_le s n l)
+
+-- the walk begins with all of them
+pub rest_all : (map : Map) → rest (record { map = map; from = 0 }) ≡ leads_of map
+rest_all map =
+    let w = map.grid.shape.width in
+    let h = map.grid.shape.height in
+    let e : w * h - 0 ≡ w * h = omega arith in
+    ap (λ n. leads_from w (records map) n 0) e ∙ from_first w h (records map)

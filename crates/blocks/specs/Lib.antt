@@ -1,2 +1,4 @@
 pub mod Leads
 pub mod Blocks
+pub mod Walk
+pub mod Areas

@@ -1,11 +1,10 @@
 //! The leaf that finds leads. Nothing else looks for them.
 
-ghost use Rattle.std.specs.Prelude.{◌≡◌, ◌+◌, ◌^◌, ◌<◌, length};
-ghost use Rattle.grid.specs.Index.{Lawful};
+ghost use Rattle.std.specs.Prelude.{◌≡◌, ◌+◌, ◌^◌, ◌<◌};
 ghost use Rattle.varmap.specs.Cells.{cells};
 ghost use Rattle.blocks.specs.Leads.{number, NextLead};
 
-use grid::View;
+use grid::Raster;
 use varmap::{Cell, Record};
 
 /// A varblock, by the place of its lead and what the lead carries.
@@ -13,6 +12,7 @@ use varmap::{Cell, Record};
 pub struct Varblock {
     pub x: usize,
     pub y: usize,
+    // a number, as the map holds it: docs/DECISIONS.md says why kinds stay numbers
     pub kind: u32,
     pub hf_mul: u32,
 }
@@ -28,12 +28,12 @@ impl Varblock {
 }
 
 /// The varblock of the first lead whose cell has the number `from` or a higher one. Cells are numbered in row order.
-pub fn next_lead(map: View<'_, Cell>, from: usize) -> Option<Varblock>
-    requires { Lawful map.shape (length map.list.now) }
+pub fn next_lead(map: Raster<'_, Cell>, from: usize) -> Option<Varblock>
     ensures { NextLead map.entry.shape.width map.entry.shape.height (cells map.entry.shape map.entry.list.now) from result }
 {
     let width = map.shape.width;
     let count = width * map.shape.height;
+    // counted: leads are found by the numbers of cells, and the list of a map has gaps between its rows
     for k in from..count {
         let (x, y) = (k % width, k / width);
         if let Record::Lead { kind, hf_mul } = map.get(x, y).holds {

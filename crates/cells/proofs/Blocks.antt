@@ -1,5 +1,5 @@
 -- A cell's 64 numbers: read from a grid, written to a grid, and the butterflies.
-use Rattle.std.proofs.Common.{◌≡◌, ℕ, ◌+◌, ◌*◌, ◌/◌, ◌%◌, ◌<◌, ◌≤◌, Bool, false, cond, ◌&&◌, ◌||◌, eqb, ltb, ◌≢◌, ◌⊎◌, List, length, get_or, set, sym, ap, ◌∙◌, subst, ap₂, inl, inr, arith, length-set, get_or-set_other, get_or-set_same, below_more}
+use Rattle.std.proofs.Common.{◌≡◌, ℕ, ◌+◌, ◌*◌, ◌/◌, ◌%◌, ◌<◌, ◌≤◌, Bool, false, cond, ◌&&◌, ◌||◌, eqb, ltb, ◌≢◌, ◌⊎◌, List, length, set, sym, ap, ◌∙◌, subst, ap₂, inl, inr, arith, length-set, get_or-set_other, get_or-set_same}
 use lib.Ieee.{Float, nan}
 use Rattle.std.proofs.lemmas.Bool.{cases_eq, eq-eqb, cond-true, cond-false}
 use Rattle.std.proofs.lemmas.Bool.Decides.{nat_tests}
@@ -7,10 +7,10 @@ use Rattle.dct_2d.specs.Plane.{Patch}
 use Rattle.dct_2d.specs.Replaced.{poured}
 use Rattle.dct.specs.Transform.{at}
 use Rattle.grid.specs.declared.Shape.{Shape}
-use Rattle.grid.specs.Index.{index, Inside, Lawful}
+use Rattle.grid.specs.Index.{index, Lawful}
 use Rattle.grid.specs.Painted.{painted}
 use Rattle.grid.specs.Window.{elements}
-use Rattle.grid.proofs.Laws.{index_below, painted_alike}
+use Rattle.grid.proofs.Laws.{painted_alike}
 use Rattle.cells.specs.Framed.{framed}
 use Rattle.cells.specs.Cells.{cell, butterfly, butterfly_at, butterflies}
 use Rattle.cells.specs.Stored.{stored}
@@ -18,47 +18,12 @@ use Rattle.cells.proofs.Framing.{cell_in, cell_is}
 
 -- ---- from a grid and to it
 
--- the rows before y, and the x first numbers of the row y
-pub record Loading (s : Shape) (xs : List Float) (y x : ℕ) (v : List Float) : Type 0 where
-  pub len : length v ≡ 64
-  pub rows : (p q : ℕ) → p < 8 → q < y → at v (q * 8 + p) ≡ at xs (index s p q)
-  pub row : (p : ℕ) → p < x → at v (y * 8 + p) ≡ at xs (index s p y)
-
-pub loading_none : (s : Shape) (xs v : List Float) → length v ≡ 64 → Loading s xs 0 0 v
-loading_none s xs v e = record { len = e; rows = λ p q a b. absurd (omega arith); row = λ p a. absurd (omega arith) }
-
-pub loading_more : (s : Shape) (xs v : List Float) (y x i : ℕ) → x < 8 → y < 8 → i ≡ index s x y → Loading s xs y x v
-    → Loading s xs y (x + 1) (set v (y * 8 + x) (at xs i))
-loading_more s xs v y x i hx hy e l = record {
-  len = length-set v (y * 8 + x) (at xs i) ∙ l.len;
-  rows = λ p q a b. get_or-set_other v (y * 8 + x) (q * 8 + p) (at xs i) nan (λ z. omega arith) ∙ l.rows p q a b;
-  row = below_more (λ p. at (set v (y * 8 + x) (at xs i)) (y * 8 + p) ≡ at xs (index s p y)) x
-      (λ p a. get_or-set_other v (y * 8 + x) (y * 8 + p) (at xs i) nan (λ z. omega arith) ∙ l.row p a)
-      (get_or-set_same v (y * 8 + x) (at xs i) nan (omega (arith, l.len)) ∙ ap (at xs) e);
-}
-
-pub loading_row : (s : Shape) (xs v : List Float) (y x : ℕ) → 8 ≤ x → Loading s xs y x v → Loading s xs (y + 1) 0 v
-loading_row s xs v y x h l = record {
-  len = l.len;
-  rows = λ p q a b. elim (cases_eq q y) [
-    | inl e ↦ subst (λ k. at v (k * 8 + p) ≡ at xs (index s p k)) (sym e) (l.row p (omega arith))
-    | inr ne ↦ l.rows p q a (omega arith)
-  ];
-  row = λ p a. absurd (omega arith);
-}
-
-pub loaded : (s : Shape) (xs v : List Float) (y : ℕ) → s.width ≡ 8 → s.height ≡ 8 → 8 ≤ y → Loading s xs y 0 v → cell v ≡ elements s xs
+pub loaded : (s : Shape) (xs v : List Float) → s.width ≡ 8 → s.height ≡ 8
+    → ((x y : ℕ) → x < 8 → y < 8 → at v (y * 8 + x) ≡ at xs (index s x y)) → cell v ≡ elements s xs
 unfolding elements
-loaded s xs v y w h b l =
-    cell_is v (λ x y. get_or xs (index s x y) nan) (λ x q a c. l.rows x q a (omega arith))
-    ∙ ap₂ (λ m n. framed m n (λ x y. get_or xs (index s x y) nan)) (sym w) (sym h)
-
--- what a place inside asks
-pub spot_inside : (s : Shape) (x y : ℕ) → s.width ≡ 8 → s.height ≡ 8 → x < 8 → y < 8 → Inside s x y
-spot_inside s x y w h a b = record { across = subst (λ k. x < k) (sym w) a; down = subst (λ k. y < k) (sym h) b }
-
-pub spot_below : (s : Shape) (m x y : ℕ) → s.width ≡ 8 → s.height ≡ 8 → Lawful s m → x < 8 → y < 8 → index s x y < m
-spot_below s m x y w h l a b = index_below s m x y l (spot_inside s x y w h a b)
+loaded s xs v w h e =
+    cell_is v (λ x y. at xs (index s x y)) e
+    ∙ ap₂ (λ m n. framed m n (λ x y. at xs (index s x y))) (sym w) (sym h)
 
 pub stored_all : (s : Shape) (v xs : List Float) → s.width ≡ 8 → s.height ≡ 8 → Lawful s (length xs)
     → painted s (stored v) xs ≡ poured (cell v) s xs

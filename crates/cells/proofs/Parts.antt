@@ -1,5 +1,5 @@
 -- Quarters and halves of a cell, as lists.
-use Rattle.std.proofs.Common.{◌≡◌, ℕ, zero, suc, ◌+◌, ◌*◌, ◌/◌, ◌%◌, ◌<◌, ◌≤◌, Bool, true, false, cond, ◌&&◌, eqb, ltb, ◌≢◌, ◌⊎◌, List, length, set, sym, refl, ap, ◌∙◌, ap₂, inl, inr, arith, lit<, lit≤, length-set, get_or-set_other, get_or-set_same, below_more}
+use Rattle.std.proofs.Common.{◌≡◌, ℕ, zero, suc, ◌+◌, ◌*◌, ◌/◌, ◌%◌, ◌<◌, ◌≤◌, Bool, true, false, cond, ◌&&◌, eqb, ltb, ◌≢◌, ◌⊎◌, List, [], ◌∷◌, length, get_or, set, sym, refl, ap, ◌∙◌, ap₂, inl, inr, arith, lit<, lit≤, add-one, length-set, get_or-set_other, get_or-set_same, below_more}
 use lib.Ieee.{Float, nan}
 use Rattle.std.proofs.lemmas.Nat.{mod-mul-add, div-mul-add}
 use Rattle.std.proofs.lemmas.Bool.{cases_eq, lt-ltb, eq-eqb, ne_eqb, cond-true, cond-false}
@@ -7,6 +7,7 @@ use Rattle.std.proofs.lemmas.Bool.Decides.{nat_tests}
 use Rattle.floats.specs.Arith.{plus, minus, over}
 use Rattle.dct_2d.specs.Plane.{Patch}
 use Rattle.dct.specs.Transform.{at}
+use Rattle.dct.proofs.Flat.{at_map}
 use Rattle.cells.specs.Cells.{cell, quarter, quartered, residual_sum, average, sixteen, residual, hornuss_quarter, paired, flipped}
 use Rattle.cells.specs.Passes.{Quarter, four_by_four, taken, average_of, raised, swapped}
 use Rattle.cells.proofs.Framing.{each_below, cell_in, cell_is}
@@ -116,67 +117,30 @@ assembled a b c d v₀ v₁ v₂ v₃ v₄ f pa pb pc pd qa qb qc qd =
     ∙ pick (x / 4) (y / 4) (at a k) (at b k) (at c k) (at d k) (at v₀ (y * 8 + x)) (λ i j. f i j (x % 4) (y % 4)) (omega arith) (omega arith)
     (qa (x % 4) (y % 4) u w) (qb (x % 4) (y % 4) u w) (qc (x % 4) (y % 4) u w) (qd (x % 4) (y % 4) u w))
 
+pub four_quarters : (a b c d : List Float) (f : ℕ → ℕ → Patch) → Quarter a (f 0 0) → Quarter b (f 1 0) → Quarter c (f 0 1) → Quarter d (f 1 1)
+    → (x y : ℕ) → x < 2 → y < 2 → Quarter (get_or (a ∷ b ∷ c ∷ d ∷ []) (y * 2 + x) []) (f x y)
+four_quarters a b c d f qa qb qc qd zero zero hx hy = qa
+four_quarters a b c d f qa qb qc qd (suc zero) zero hx hy = qb
+four_quarters a b c d f qa qb qc qd zero (suc zero) hx hy = qc
+four_quarters a b c d f qa qb qc qd (suc zero) (suc zero) hx hy = qd
+four_quarters a b c d f qa qb qc qd (suc (suc x)) y hx hy = absurd (omega arith)
+four_quarters a b c d f qa qb qc qd x (suc (suc y)) hx hy = absurd (omega arith)
+
 -- ---- Hornuss
 
 -- the 16 numbers that are read are the quarter
 pub taken_is : (v : List Float) (x y : ℕ) → x < 2 → y < 2 → Quarter (taken v x y) (quarter x y (cell v))
 taken_is v x y hx hy i j hi hj =
-    each_below (λ j. (i : ℕ) → i < 4 → at (taken v x y) (j * 4 + i) ≡ quarter x y (cell v) i j) 4 (row_3, (row_2, (row_1, (row_0, tt)))) j hj i hi
-  where
-    spot : (k i j : ℕ) → i < 4 → j < 4 → k ≡ (y + 2 * j) * 8 + (x + 2 * i) → at v k ≡ quarter x y (cell v) i j
-    spot k i j hi hj e = ap (at v) e ∙ sym (cell_in v (x + 2 * i) (y + 2 * j) (omega arith) (omega arith))
+    let k = j * 4 + i in
+    at_map (λ k. at v ((y + 2 * (k / 4)) * 8 + (x + 2 * (k % 4)))) 16 k (omega arith)
+    ∙ ap₂ (λ (r c : ℕ). at v ((y + 2 * r) * 8 + (x + 2 * c))) (div-mul-add j 4 i hi) (mod-mul-add j 4 i hi)
+    ∙ sym (cell_in v (x + 2 * i) (y + 2 * j) (omega arith) (omega arith))
 
-    row_0 : (i : ℕ) → i < 4 → at (taken v x y) (0 * 4 + i) ≡ quarter x y (cell v) i 0
-    row_0 i h =
-        each_below (λ i. at (taken v x y) (0 * 4 + i) ≡ quarter x y (cell v) i 0) 4 (
-          spot (y * 8 + (x + 6)) 3 0 (lit< tt) (lit< tt) (omega arith),
-          (
-            spot (y * 8 + (x + 4)) 2 0 (lit< tt) (lit< tt) (omega arith),
-            (
-              spot (y * 8 + (x + 2)) 1 0 (lit< tt) (lit< tt) (omega arith),
-              (spot (y * 8 + x) 0 0 (lit< tt) (lit< tt) (omega arith), tt),
-            ),
-          ),
-        ) i h
-
-    row_1 : (i : ℕ) → i < 4 → at (taken v x y) (1 * 4 + i) ≡ quarter x y (cell v) i 1
-    row_1 i h =
-        each_below (λ i. at (taken v x y) (1 * 4 + i) ≡ quarter x y (cell v) i 1) 4 (
-          spot ((y + 2) * 8 + (x + 6)) 3 1 (lit< tt) (lit< tt) (omega arith),
-          (
-            spot ((y + 2) * 8 + (x + 4)) 2 1 (lit< tt) (lit< tt) (omega arith),
-            (
-              spot ((y + 2) * 8 + (x + 2)) 1 1 (lit< tt) (lit< tt) (omega arith),
-              (spot ((y + 2) * 8 + x) 0 1 (lit< tt) (lit< tt) (omega arith), tt),
-            ),
-          ),
-        ) i h
-
-    row_2 : (i : ℕ) → i < 4 → at (taken v x y) (2 * 4 + i) ≡ quarter x y (cell v) i 2
-    row_2 i h =
-        each_below (λ i. at (taken v x y) (2 * 4 + i) ≡ quarter x y (cell v) i 2) 4 (
-          spot ((y + 4) * 8 + (x + 6)) 3 2 (lit< tt) (lit< tt) (omega arith),
-          (
-            spot ((y + 4) * 8 + (x + 4)) 2 2 (lit< tt) (lit< tt) (omega arith),
-            (
-              spot ((y + 4) * 8 + (x + 2)) 1 2 (lit< tt) (lit< tt) (omega arith),
-              (spot ((y + 4) * 8 + x) 0 2 (lit< tt) (lit< tt) (omega arith), tt),
-            ),
-          ),
-        ) i h
-
-    row_3 : (i : ℕ) → i < 4 → at (taken v x y) (3 * 4 + i) ≡ quarter x y (cell v) i 3
-    row_3 i h =
-        each_below (λ i. at (taken v x y) (3 * 4 + i) ≡ quarter x y (cell v) i 3) 4 (
-          spot ((y + 6) * 8 + (x + 6)) 3 3 (lit< tt) (lit< tt) (omega arith),
-          (
-            spot ((y + 6) * 8 + (x + 4)) 2 3 (lit< tt) (lit< tt) (omega arith),
-            (
-              spot ((y + 6) * 8 + (x + 2)) 1 3 (lit< tt) (lit< tt) (omega arith),
-              (spot ((y + 6) * 8 + x) 0 3 (lit< tt) (lit< tt) (omega arith), tt),
-            ),
-          ),
-        ) i h
+-- the sum with one number more
+pub residual_more : (q : List Float) (n : ℕ) (s a : Float) → s ≡ residual_sum (four_by_four q) n → a ≡ at q (n + 1) → plus s a ≡ residual_sum (four_by_four q) (n + 1)
+residual_more q n s a e h =
+    let p : n + 1 ≡ suc n / 4 * 4 + suc n % 4 = omega arith in
+    ap₂ plus e (h ∙ ap (at q) p) ∙ ap (residual_sum (four_by_four q)) (sym (add-one n))
 
 residual_sum_same : (s t : Patch) → ((i j : ℕ) → i < 4 → j < 4 → s i j ≡ t i j) → (n : ℕ) → n ≤ 15 → residual_sum s n ≡ residual_sum t n
 residual_sum_same s t e zero l = refl

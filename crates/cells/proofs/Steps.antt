@@ -1,11 +1,11 @@
 -- The transforms of a cell that are made of DCTs, in passes over rows and columns.
-use Rattle.std.proofs.Common.{◌≡◌, ℕ, ◌+◌, ◌*◌, ◌/◌, ◌%◌, ◌<◌, ◌≤◌, true, cond, ◌&&◌, eqb, ltb, ◌≢◌, ◌⊎◌, List, [], ◌∷◌, length, set, sym, refl, ap, ◌∙◌, ap₂, inl, inr, add-zero, add_comm, zero-add, arith, get_or-set_other, get_or-set_same}
+use Rattle.std.proofs.Common.{◌≡◌, ℕ, ◌+◌, ◌*◌, ◌/◌, ◌%◌, ◌<◌, ◌≤◌, true, cond, ◌&&◌, eqb, ltb, ◌≢◌, ◌⊎◌, List, length, set, sym, refl, ap, ◌∙◌, subst, ap₂, inl, inr, add_comm, arith, get_or-set_other, get_or-set_same}
 use lib.Ieee.{Float, nan}
 use Rattle.std.proofs.lemmas.Bool.{cases_eq, lt-ltb, eq-eqb, ne_eqb, cond-true, cond-false}
 use Rattle.std.proofs.lemmas.Bool.Decides.{nat_tests}
 use Rattle.dct.specs.declared.dct_common.DctDirection.TheVariants.{Inverse}
 use Rattle.dct_2d.specs.Plane.{Patch, line, across, down, plane}
-use Rattle.dct.specs.Transform.{at, idct, dct_of, inverse4}
+use Rattle.dct.specs.Transform.{at, idct, dct_of}
 use Rattle.dct_2d.proofs.Passes.{line_same}
 use Rattle.cells.specs.Framed.{framed, turned}
 use Rattle.cells.specs.Cells.{cell, butterflies, flipped, half_rows, paired, dct4x8, dct4, dct4_quarter, dct8}
@@ -40,22 +40,15 @@ put_all v o old x j l h p q hp hq =
     let t : ltb q j ≡ true = lt-ltb q j (omega arith) in
     h p q hp hq ∙ grind (arith, nat_tests)
 
--- a row as a list
-row_is : (v : List Float) (y q : ℕ) → at (idct 3 (row v y)) q ≡ line Inverse 3 (λ j. at v (y * 8 + j)) q
-unfolding line dct_of
-row_is v y q =
-    ap (λ (t : ℕ). at (idct 3 (at v t ∷ at v (y * 8 + 1) ∷ at v (y * 8 + 2) ∷ at v (y * 8 + 3) ∷ at v (y * 8 + 4) ∷ at v (y * 8 + 5) ∷ at v (y * 8 + 6) ∷ at v (y * 8 + 7) ∷ [])) q)
-    (sym (add-zero (y * 8)))
-
 -- a number of the turned cell
 flipped_at : (v : List Float) (x y : ℕ) → x < 8 → y < 8 → at v (x * 8 + y) ≡ flipped (cell v) x y
 unfolding flipped
 flipped_at v x y hx hy = sym (framed_in 8 8 (turned (cell v)) x y hx hy ∙ cell_in v y x hy hx)
 
 pub row_down : (v : List Float) (y q : ℕ) → y < 8 → q < 8 → at (idct 3 (row v y)) q ≡ down Inverse 3 (flipped (cell v)) y q
+unfolding line dct_of
 row_down v y q hy hq =
-    row_is v y q
-    ∙ line_same Inverse 3 (λ j. at v (y * 8 + j)) (λ j. flipped (cell v) y j) (λ j hj. flipped_at v y j hy hj) q hq
+    line_same Inverse 3 (λ j. at v (y * 8 + j)) (λ j. flipped (cell v) y j) (λ j hj. flipped_at v y j hy hj) q hq
 
 pub columns_more : (g : Patch) (o o' r : List Float) (x : ℕ) → x < 8 → ((q : ℕ) → q < 8 → at r q ≡ g x q)
     → ((p q : ℕ) → p < x → q < 8 → at o (q * 8 + p) ≡ g p q)
@@ -69,6 +62,19 @@ columns_more g o o' r x hx e h k p q hp hq = go (cases_eq p x)
         ∙ e q hq ∙ ap (λ (t : ℕ). g t q) (sym a)
     go (inr a) =
         k p q (omega arith) hq ∙ cond-false (eqb p x) (at r q) (at o (q * 8 + p)) (ne_eqb p x a) ∙ h p q (omega arith) hq
+
+-- one column more, each of which some list with P is
+pub column_written : (P : ℕ → List Float → Type 0) (o o' r : List Float) (x : ℕ) → x < 8 → P x r
+    → ((p q : ℕ) → p < x → q < 8 → (v : List Float) × P p v × (at o (q * 8 + p) ≡ at v q))
+    → ((p q : ℕ) → p < 8 → q < 8 → at o' (q * 8 + p) ≡ cond (eqb p x) (at r q) (at o (q * 8 + p)))
+    → (p q : ℕ) → p < x + 1 → q < 8 → (v : List Float) × P p v × (at o' (q * 8 + p) ≡ at v q)
+column_written P o o' r x hx e h k p q hp hq = go (cases_eq p x)
+  where
+    go : (p ≡ x) ⊎ (p ≢ x) → (v : List Float) × P p v × (at o' (q * 8 + p) ≡ at v q)
+    go (inl a) = (r, subst (λ (t : ℕ). P t r) (sym a) e, k p q (omega arith) hq ∙ cond-true (eqb p x) (at r q) (at o (q * 8 + p)) (eq-eqb p x a))
+    go (inr a) =
+        let i = h p q (omega arith) hq in
+        (i.0, i.1, k p q (omega arith) hq ∙ cond-false (eqb p x) (at r q) (at o (q * 8 + p)) (ne_eqb p x a) ∙ i.2)
 
 pub columns_all : (p : Patch) (o : List Float) → ((x y : ℕ) → x < 8 → y < 8 → at o (y * 8 + x) ≡ down Inverse 3 p x y) → cell o ≡ downs p
 unfolding downs
@@ -96,21 +102,13 @@ column_halves_at : (v : List Float) (x q : ℕ) → q < 8 → at (halves (column
 unfolding line dct_of idct
 column_halves_at v x =
     each_below (λ q. at (halves (column v x)) q ≡ line Inverse 2 (λ j. at v ((2 * j + q / 4) * 8 + x)) (q % 4)) 8
-    (refl, (refl, (refl, (refl, (first 3, (first 2, (first 1, (first 0, tt))))))))
-  where
-    first : (k : ℕ) → at (inverse4 (at v x) (at v (16 + x)) (at v (32 + x)) (at v (48 + x))) k
-        ≡ at (inverse4 (at v (0 + x)) (at v (16 + x)) (at v (32 + x)) (at v (48 + x))) k
-    first k = ap (λ (t : ℕ). at (inverse4 (at v t) (at v (16 + x)) (at v (32 + x)) (at v (48 + x))) k) (sym (zero-add x))
+    (refl, (refl, (refl, (refl, (refl, (refl, (refl, (refl, tt))))))))
 
 row_halves_at : (v : List Float) (y q : ℕ) → q < 8 → at (halves (row v y)) q ≡ line Inverse 2 (λ j. at v (y * 8 + (2 * j + q / 4))) (q % 4)
 unfolding line dct_of idct
 row_halves_at v y =
     each_below (λ q. at (halves (row v y)) q ≡ line Inverse 2 (λ j. at v (y * 8 + (2 * j + q / 4))) (q % 4)) 8
-    (refl, (refl, (refl, (refl, (first 3, (first 2, (first 1, (first 0, tt))))))))
-  where
-    first : (k : ℕ) → at (inverse4 (at v (y * 8)) (at v (y * 8 + 2)) (at v (y * 8 + 4)) (at v (y * 8 + 6))) k
-        ≡ at (inverse4 (at v (y * 8 + 0)) (at v (y * 8 + 2)) (at v (y * 8 + 4)) (at v (y * 8 + 6))) k
-    first k = ap (λ (t : ℕ). at (inverse4 (at v t) (at v (y * 8 + 2)) (at v (y * 8 + 4)) (at v (y * 8 + 6))) k) (sym (add-zero (y * 8)))
+    (refl, (refl, (refl, (refl, (refl, (refl, (refl, (refl, tt))))))))
 
 pub column_halves : (v : List Float) (x q : ℕ) → x < 8 → q < 8 → at (halves (column v x)) q ≡ line Inverse 2 (λ j. cell v x (2 * j + q / 4)) (q % 4)
 column_halves v x q hx hq =

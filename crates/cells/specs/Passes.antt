@@ -1,5 +1,6 @@
 -- The passes over columns in which the code makes the transforms of a cell, and the lists that it holds between them.
-use Rattle.std.specs.Prelude.{◌≡◌, ℕ, ◌+◌, ◌*◌, ◌/◌, ◌%◌, ◌<◌, Bool, true, false, List, [], ◌∷◌, ◌++◌, Float}
+use Rattle.std.specs.Prelude.{◌≡◌, ℕ, ◌+◌, ◌*◌, ◌/◌, ◌%◌, ◌<◌, Bool, true, false, List, [], ◌∷◌, ◌++◌, map, Float}
+use Rattle.std.specs.List.{range_with_len}
 use Rattle.floats.specs.Arith.{plus, minus, over}
 use Rattle.dct.specs.declared.dct_common.DctDirection.TheVariants.{Inverse}
 use Rattle.dct_2d.specs.Plane.{Patch, line, down}
@@ -23,11 +24,7 @@ four_by_four v i j = at v (j * 4 + i)
 
 -- the quarter (x, y) of 64 numbers
 abbrev pub taken : List Float → ℕ → ℕ → List Float
-taken v x y =
-    at v (y * 8 + x) ∷ at v (y * 8 + (x + 2)) ∷ at v (y * 8 + (x + 4)) ∷ at v (y * 8 + (x + 6))
-    ∷ at v ((y + 2) * 8 + x) ∷ at v ((y + 2) * 8 + (x + 2)) ∷ at v ((y + 2) * 8 + (x + 4)) ∷ at v ((y + 2) * 8 + (x + 6))
-    ∷ at v ((y + 4) * 8 + x) ∷ at v ((y + 4) * 8 + (x + 2)) ∷ at v ((y + 4) * 8 + (x + 4)) ∷ at v ((y + 4) * 8 + (x + 6))
-    ∷ at v ((y + 6) * 8 + x) ∷ at v ((y + 6) * 8 + (x + 2)) ∷ at v ((y + 6) * 8 + (x + 4)) ∷ at v ((y + 6) * 8 + (x + 6)) ∷ []
+taken v x y = map (λ k. at v ((y + 2 * (k / 4)) * 8 + (x + 2 * (k % 4)))) (range_with_len 0 16)
 
 -- Hornuss's average and samples of a quarter
 abbrev pub average_of : List Float → Float
@@ -48,13 +45,10 @@ swapped p = framed 8 8 (λ x y. p (4 * (y / 4) + x % 4) (4 * (x / 4) + y % 4))
 
 -- the row y and the column x of 64 numbers
 abbrev pub row : List Float → ℕ → List Float
-row v y =
-    at v (y * 8) ∷ at v (y * 8 + 1) ∷ at v (y * 8 + 2) ∷ at v (y * 8 + 3)
-    ∷ at v (y * 8 + 4) ∷ at v (y * 8 + 5) ∷ at v (y * 8 + 6) ∷ at v (y * 8 + 7) ∷ []
+row v y = map (λ x. at v (y * 8 + x)) (range_with_len 0 8)
 
 abbrev pub column : List Float → ℕ → List Float
-column v x =
-    at v x ∷ at v (8 + x) ∷ at v (16 + x) ∷ at v (24 + x) ∷ at v (32 + x) ∷ at v (40 + x) ∷ at v (48 + x) ∷ at v (56 + x) ∷ []
+column v x = map (λ y. at v (y * 8 + x)) (range_with_len 0 8)
 
 -- the even and the odd of 8 numbers, each four transformed
 abbrev pub halves : List Float → List Float

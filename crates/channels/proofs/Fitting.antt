@@ -1,15 +1,12 @@
 -- What grids of one size share, and what a check that passed tells of their numbers.
-use Rattle.std.proofs.Common.{◌≡◌, ℕ, ◌<◌, true, ◌&&◌, List, length, ℤ, Ok, ap, ◌∙◌, arith}
+use Rattle.std.proofs.Common.{◌≡◌, ℕ, ◌<◌, true, ◌&&◌, length, ℤ, Ok, arith}
 use Rattle.std.proofs.lemmas.Bool.{and_parts}
-use Rattle.grid.specs.declared.brush.Xyb.{Xyb}
-use Rattle.grid.specs.declared.Shape.{Shape}
-use Rattle.grid.specs.declared.Grid.{Grid}
-use Rattle.grid.specs.Became.{Became}
-use Rattle.grid.specs.Index.{Lawful, Inside, sized}
-use Rattle.grid.specs.Plane.{Plane, lent, fitting}
+use Rattle.grid.specs.declared.xyb.Xyb.{Xyb}
+use Rattle.grid.specs.Index.{Lawful, Inside}
+use Rattle.grid.specs.Plane.{Plane, fitting}
 use Rattle.grid.proofs.Sized.{sized_true, wide_enough}
 use Rattle.refusal.proofs.Checked.{checked_passed}
-use Rattle.channels.specs.Channels.{all_fit}
+use Rattle.grid.specs.Channels.{all_fit}
 use Rattle.channels.specs.Ranges.{in_range_at, range_checked}
 
 pub fits_three : {A : Type 0} (w h : ℕ) (p : Xyb (Plane A)) → all_fit w h p ≡ true
@@ -39,9 +36,3 @@ pub range_passed : (w h channel : ℕ) (n : Plane ℤ) → fitting w h n ≡ tru
     → (x y : ℕ) → x < w → y < h → in_range_at n x y ≡ true
 unfolding range_checked
 range_passed w h channel n f e = checked_passed w h _ _ (wide_enough w h _ _ (sized_true w h _ _ f)) e
-
--- a grid that came back with a list as long as before is as large as before
-pub fits_became : {A : Type 0} (w h : ℕ) (a b : Grid A) (xs : List A) → Became a b xs → length xs ≡ length a.list.now
-    → fitting w h (lent a) ≡ true → fitting w h (lent b) ≡ true
-fits_became w h a b xs r e f =
-    ap (λ (s : Shape). sized w h s (length b.list.now)) r.shape ∙ ap (sized w h a.shape) (ap length r.list ∙ e) ∙ f

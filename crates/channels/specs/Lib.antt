@@ -1,2 +1,3 @@
-pub mod Channels
 pub mod Ranges
+pub mod Correlated
+pub mod Checked

@@ -1,7 +1,15 @@
-//! What the stages share: three grids, one for each channel, and the check of whole numbers.
+//! What the stages share: the check of whole numbers, and how X and B go with Y.
 
 #![tactic(auto)]
 
-mod checks;
+mod colour;
+mod correlation;
+mod gained;
+mod numbers;
+mod three;
 
-pub use checks::{check_range, numbers_fit, samples_fit};
+pub use colour::ColourFactor;
+pub use correlation::{Correlation, gain};
+pub use gained::Gained;
+pub use numbers::Numbers;
+pub use three::check_channels;

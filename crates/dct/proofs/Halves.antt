@@ -1,5 +1,5 @@
 -- From the halves to the whole: what the parts of `dct` say of its list, at each length.
-use Rattle.std.proofs.Common.{◌≡◌, ℕ, zero, suc, ◌+◌, ◌*◌, ◌^◌, ◌<◌, ◌≤◌, ◌≢◌, List, [], ◌∷◌, length, set, sym, refl, ap, ◌∙◌, subst, arith, pow_pos}
+use Rattle.std.proofs.Common.{◌≡◌, ℕ, zero, suc, ◌+◌, ◌*◌, ◌/◌, ◌^◌, ◌<◌, ◌≤◌, ◌≢◌, List, [], ◌∷◌, length, set, sym, refl, ap, ◌∙◌, subst, arith, pow_pos}
 use native.Mathlib.Nat.{pow-succ'}
 use lib.Ieee.{Float}
 use Rattle.dct.specs.declared.dct_common.DctDirection.{DctDirection}
@@ -30,7 +30,7 @@ large n s a b c = go s.0 s.1 s.2
     go (suc (suc zero)) u e = absurd (c e)
     go (suc (suc (suc j))) u e = record { j = j; bound = u; whole = e; halves = e ∙ pow-succ' 2 (suc (suc j)) ∙ twofold (2 ^ suc (suc j)) }
 
-pub secants_length : (j : ℕ) → suc (suc (suc j)) ≤ 8 → length (secants (suc (suc (suc j)))) ≡ 2 ^ suc (suc j)
+secants_length : (j : ℕ) → suc (suc (suc j)) ≤ 8 → length (secants (suc (suc (suc j)))) ≡ 2 ^ suc (suc j)
 unfolding secants
 secants_length zero u = refl
 secants_length (suc zero) u = refl
@@ -39,6 +39,13 @@ secants_length (suc (suc (suc zero))) u = refl
 secants_length (suc (suc (suc (suc zero)))) u = refl
 secants_length (suc (suc (suc (suc (suc zero))))) u = refl
 secants_length (suc (suc (suc (suc (suc (suc j)))))) u = absurd (omega arith)
+
+-- the factors of a length are half as many as it
+pub factor_count : (j n : ℕ) (s : List Float) → suc (suc (suc j)) ≤ 8 → n ≡ 2 ^ suc (suc (suc j))
+    → ((k : ℕ) → 2 ≤ k → k ≤ 8 → n ≡ 2 ^ k → s ≡ secants k) → length s ≡ n / 2
+factor_count j n s u e t =
+    ap length (t (suc (suc (suc j))) (omega arith) u e) ∙ secants_length j u
+    ∙ omega (arith, e ∙ pow-succ' 2 (suc (suc j)) ∙ twofold (2 ^ suc (suc j)))
 
 pub apart : (d : DctDirection) → d ≡ Forward → d ≡ Inverse → ⊥
 apart d p q = let z : ◌≡◌ {A = ℕ} 0 1 = cc in omega arith

@@ -1,12 +1,12 @@
 -- The rule of the half secants, proved at all of their numbers by one test that antt computes.
-use Rattle.std.proofs.Common.{◌≡◌, ℕ, zero, suc, ◌^◌, ◌<◌, ◌≤◌, Bool, true, false, T, ◌⊎◌, List, [], ◌∷◌, map, length, get_or, take, drop, sym, subst, inl, inr, le_of_suc-le-suc, not-suc-le-zero, add-one, arith, lit≤}
+use Rattle.std.proofs.Common.{◌≡◌, ℕ, zero, suc, ◌^◌, ◌<◌, ◌≤◌, Bool, true, false, T, List, [], ◌∷◌, length, get_or, sym, subst, le_of_suc-le-suc, not-suc-le-zero, ◌≢◌, add-one, arith, lit≤, inl, inr}
 use lib.Ieee.{Float, nan, inf, fin, lt, of_bits}
 use lib.Ieee.Scale.{finite}
 use Rattle.std.proofs.lemmas.Bool.{cases_eq}
 use Rattle.floats.specs.Same.{Finite}
-use Rattle.dct.specs.Secants.{bits_4, bits_8, bits_16, bits_32, bits_large, secants}
+use Rattle.dct.specs.Secants.{secants}
 use Rattle.dct.specs.Transform.{at}
-use Rattle.floats.specs.Arith.{float, half}
+use Rattle.floats.specs.Arith.{half}
 use Rattle.dct.specs.Table.{Rising}
 
 abbrev both : Bool → Bool → Bool
@@ -101,68 +101,54 @@ secants_rise (suc (suc (suc (suc (suc (suc (suc zero))))))) l u = from_test (sec
 secants_rise (suc (suc (suc (suc (suc (suc (suc (suc zero)))))))) l u = from_test (secants 8) (one_of tables test 6)
 secants_rise (suc (suc (suc (suc (suc (suc (suc (suc (suc k))))))))) l u = absurd (omega arith)
 
--- ---- what the code's two tables say of a length
+-- ---- what the code's table says of a length
 
-none_rise : Rising []
-none_rise = from_test [] tt
+module _ (n : ℕ) (r : List Float) (e₂ : n ≡ 4 → r ≡ secants 2) (e₃ : n ≡ 8 → r ≡ secants 3) (e₄ : n ≡ 16 → r ≡ secants 4) (e₅ : n ≡ 32 → r ≡ secants 5)
+    (e₆ : n ≡ 64 → r ≡ secants 6) (e₇ : n ≡ 128 → r ≡ secants 7) (e₈ : n ≡ 256 → r ≡ secants 8)
+    (other : n ≢ 4 → n ≢ 8 → n ≢ 16 → n ≢ 32 → n ≢ 64 → n ≢ 128 → n ≢ 256 → r ≡ []) where
+  pub table_at : (k : ℕ) → 2 ≤ k → k ≤ 8 → n ≡ 2 ^ k → r ≡ secants k
+  table_at zero l u e = absurd (omega arith)
+  table_at (suc zero) l u e = absurd (omega arith)
+  table_at (suc (suc zero)) l u e = e₂ e
+  table_at (suc (suc (suc zero))) l u e = e₃ e
+  table_at (suc (suc (suc (suc zero)))) l u e = e₄ e
+  table_at (suc (suc (suc (suc (suc zero))))) l u e = e₅ e
+  table_at (suc (suc (suc (suc (suc (suc zero)))))) l u e = e₆ e
+  table_at (suc (suc (suc (suc (suc (suc (suc zero))))))) l u e = e₇ e
+  table_at (suc (suc (suc (suc (suc (suc (suc (suc zero)))))))) l u e = e₈ e
+  table_at (suc (suc (suc (suc (suc (suc (suc (suc (suc k))))))))) l u e = absurd (omega arith)
 
-module _ (n : ℕ) (r : List Float) where
-  pub small_table : n ≤ 32 → (n ≡ 4 → r ≡ map float bits_4) → (n ≡ 8 → r ≡ map float bits_8) → (n ≡ 16 → r ≡ map float bits_16) → (n ≡ 32 → r ≡ map float bits_32)
-      → (k : ℕ) → 2 ≤ k → k ≤ 8 → n ≡ 2 ^ k → r ≡ secants k
-  unfolding secants
-  small_table u a b c d zero l h e = absurd (omega arith)
-  small_table u a b c d (suc zero) l h e = absurd (omega arith)
-  small_table u a b c d (suc (suc zero)) l h e = a e
-  small_table u a b c d (suc (suc (suc zero))) l h e = b e
-  small_table u a b c d (suc (suc (suc (suc zero)))) l h e = c e
-  small_table u a b c d (suc (suc (suc (suc (suc zero))))) l h e = d e
-  small_table u a b c d (suc (suc (suc (suc (suc (suc zero)))))) l h e = absurd (omega arith)
-  small_table u a b c d (suc (suc (suc (suc (suc (suc (suc zero))))))) l h e = absurd (omega arith)
-  small_table u a b c d (suc (suc (suc (suc (suc (suc (suc (suc zero)))))))) l h e = absurd (omega arith)
-  small_table u a b c d (suc (suc (suc (suc (suc (suc (suc (suc (suc k))))))))) l h e = absurd (omega arith)
+  pub table_none : ((k : ℕ) → 2 ≤ k → k ≤ 8 → n ≢ 2 ^ k) → r ≡ []
+  table_none f =
+      other (f 2 (lit≤ tt) (lit≤ tt)) (f 3 (lit≤ tt) (lit≤ tt)) (f 4 (lit≤ tt) (lit≤ tt)) (f 5 (lit≤ tt) (lit≤ tt))
+      (f 6 (lit≤ tt) (lit≤ tt)) (f 7 (lit≤ tt) (lit≤ tt)) (f 8 (lit≤ tt) (lit≤ tt))
 
-  pub small_rule : (n ≡ 4 → r ≡ map float bits_4) → (n ≡ 8 → r ≡ map float bits_8) → (n ≡ 16 → r ≡ map float bits_16) → (n ≡ 32 → r ≡ map float bits_32)
-      → ((n ≡ 4 → ⊥) → (n ≡ 8 → ⊥) → (n ≡ 16 → ⊥) → (n ≡ 32 → ⊥) → r ≡ []) → Rising r
-  unfolding secants
-  small_rule a b c d o = go (cases_eq n 4) (cases_eq n 8) (cases_eq n 16) (cases_eq n 32)
-    where
-      go : (n ≡ 4) ⊎ (n ≡ 4 → ⊥) → (n ≡ 8) ⊎ (n ≡ 8 → ⊥) → (n ≡ 16) ⊎ (n ≡ 16 → ⊥) → (n ≡ 32) ⊎ (n ≡ 32 → ⊥) → Rising r
-      go (inl e) q s t = subst Rising (sym (a e)) (secants_rise 2 (lit≤ tt) (lit≤ tt))
-      go (inr p) (inl e) s t = subst Rising (sym (b e)) (secants_rise 3 (lit≤ tt) (lit≤ tt))
-      go (inr p) (inr q) (inl e) t = subst Rising (sym (c e)) (secants_rise 4 (lit≤ tt) (lit≤ tt))
-      go (inr p) (inr q) (inr s) (inl e) = subst Rising (sym (d e)) (secants_rise 5 (lit≤ tt) (lit≤ tt))
-      go (inr p) (inr q) (inr s) (inr t) = subst Rising (sym (o p q s t)) none_rise
+  rises_from : (k : ℕ) → 2 ≤ k → k ≤ 8 → r ≡ secants k → Rising r
+  rises_from k l u e = subst Rising (sym e) (secants_rise k l u)
 
-  pub small_none : ((n ≡ 4 → ⊥) → (n ≡ 8 → ⊥) → (n ≡ 16 → ⊥) → (n ≡ 32 → ⊥) → r ≡ []) → ((k : ℕ) → 2 ≤ k → k ≤ 8 → n ≡ 2 ^ k → ⊥) → r ≡ []
-  small_none o f = o (f 2 (lit≤ tt) (lit≤ tt)) (f 3 (lit≤ tt) (lit≤ tt)) (f 4 (lit≤ tt) (lit≤ tt)) (f 5 (lit≤ tt) (lit≤ tt))
-
-  pub large_table : 32 < n → (n ≡ 64 → r ≡ map float (take 32 bits_large)) → (n ≡ 128 → r ≡ map float (take 64 (drop 32 bits_large))) → (n ≡ 256 → r ≡ map float (drop 96 bits_large))
-      → (k : ℕ) → 2 ≤ k → k ≤ 8 → n ≡ 2 ^ k → r ≡ secants k
-  unfolding secants
-  large_table u a b c zero l h e = absurd (omega arith)
-  large_table u a b c (suc zero) l h e = absurd (omega arith)
-  large_table u a b c (suc (suc zero)) l h e = absurd (omega arith)
-  large_table u a b c (suc (suc (suc zero))) l h e = absurd (omega arith)
-  large_table u a b c (suc (suc (suc (suc zero)))) l h e = absurd (omega arith)
-  large_table u a b c (suc (suc (suc (suc (suc zero))))) l h e = absurd (omega arith)
-  large_table u a b c (suc (suc (suc (suc (suc (suc zero)))))) l h e = a e
-  large_table u a b c (suc (suc (suc (suc (suc (suc (suc zero))))))) l h e = b e
-  large_table u a b c (suc (suc (suc (suc (suc (suc (suc (suc zero)))))))) l h e = c e
-  large_table u a b c (suc (suc (suc (suc (suc (suc (suc (suc (suc k))))))))) l h e = absurd (omega arith)
-
-  pub large_rule : (n ≡ 64 → r ≡ map float (take 32 bits_large)) → (n ≡ 128 → r ≡ map float (take 64 (drop 32 bits_large))) → (n ≡ 256 → r ≡ map float (drop 96 bits_large))
-      → ((n ≡ 64 → ⊥) → (n ≡ 128 → ⊥) → (n ≡ 256 → ⊥) → r ≡ []) → Rising r
-  unfolding secants
-  large_rule a b c o = go (cases_eq n 64) (cases_eq n 128) (cases_eq n 256)
-    where
-      go : (n ≡ 64) ⊎ (n ≡ 64 → ⊥) → (n ≡ 128) ⊎ (n ≡ 128 → ⊥) → (n ≡ 256) ⊎ (n ≡ 256 → ⊥) → Rising r
-      go (inl e) q s = subst Rising (sym (a e)) (secants_rise 6 (lit≤ tt) (lit≤ tt))
-      go (inr p) (inl e) s = subst Rising (sym (b e)) (secants_rise 7 (lit≤ tt) (lit≤ tt))
-      go (inr p) (inr q) (inl e) = subst Rising (sym (c e)) (secants_rise 8 (lit≤ tt) (lit≤ tt))
-      go (inr p) (inr q) (inr s) = subst Rising (sym (o p q s)) none_rise
-
-  pub large_none : ((n ≡ 64 → ⊥) → (n ≡ 128 → ⊥) → (n ≡ 256 → ⊥) → r ≡ []) → ((k : ℕ) → 2 ≤ k → k ≤ 8 → n ≡ 2 ^ k → ⊥) → r ≡ []
-  large_none o f = o (f 6 (lit≤ tt) (lit≤ tt)) (f 7 (lit≤ tt) (lit≤ tt)) (f 8 (lit≤ tt) (lit≤ tt))
+  pub table_rule : Rising r
+  table_rule = elim (cases_eq n 4) [
+    | inl e ↦ rises_from 2 (lit≤ tt) (lit≤ tt) (e₂ e)
+    | inr a ↦ elim (cases_eq n 8) [
+      | inl e ↦ rises_from 3 (lit≤ tt) (lit≤ tt) (e₃ e)
+      | inr b ↦ elim (cases_eq n 16) [
+        | inl e ↦ rises_from 4 (lit≤ tt) (lit≤ tt) (e₄ e)
+        | inr c ↦ elim (cases_eq n 32) [
+          | inl e ↦ rises_from 5 (lit≤ tt) (lit≤ tt) (e₅ e)
+          | inr d ↦ elim (cases_eq n 64) [
+            | inl e ↦ rises_from 6 (lit≤ tt) (lit≤ tt) (e₆ e)
+            | inr f ↦ elim (cases_eq n 128) [
+              | inl e ↦ rises_from 7 (lit≤ tt) (lit≤ tt) (e₇ e)
+              | inr g ↦ elim (cases_eq n 256) [
+                | inl e ↦ rises_from 8 (lit≤ tt) (lit≤ tt) (e₈ e)
+                | inr h ↦ subst Rising (sym (other a b c d f g h)) (from_test [] tt)
+              ]
+            ]
+          ]
+        ]
+      ]
+    ]
+  ]
 
 -- ---- what the transforms need: no secant is infinite or a NaN
 

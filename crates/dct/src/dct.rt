@@ -1,24 +1,19 @@
 //! The transform of one list.
 
-ghost use Rattle.std.specs.Prelude.{◌≡◌, ℕ, ◌+◌, ◌-◌, ◌*◌, ◌^◌, ◌<◌, ◌≤◌, length, Decides, ◌≢◌};
+ghost use Rattle.std.specs.Prelude.{◌≡◌, ℕ, ◌+◌, ◌^◌, ◌<◌, ◌≤◌, length, Decides};
 ghost use Rattle.floats.specs.Arith.{plus, minus, times, over, two};
-ghost use Rattle.dct.specs.Secants.{root_two as root2};
 ghost use Rattle.dct.specs.Sides.{Sided};
-ghost use Rattle.dct.specs.Transform.{at, forward4 as forward4_of, inverse4 as inverse4_of, dct4_of, dct_of, evens, odd_sums as odds, joined, means, slopes, interleaved, gathered};
+ghost use Rattle.dct.specs.Transform.{forward4 as forward4_of, inverse4 as inverse4_of, dct4_of, dct_of, idct, evens, odd_sum as odd_sum_of, odd_sums as odds, joined, means, slope as slope_of, slopes, interleaved, gathered};
 
-use crate::dct_common::{DctDirection, SQRT_2, sec_half};
-
-const SEC_0: f32 = 0.5411961;
-
-const SEC_1: f32 = 1.306563;
+use crate::dct_common::{DctDirection, SEC_HALF_4, SEC_HALF_8, SQRT_2, sec_half};
 
 fn forward4(a: f32, b: f32, c: f32, d: f32) -> [f32; 4]
     ensures { result ≡ forward4_of a b c d }
 {
     let sum03 = a + d;
     let sum12 = b + c;
-    let tmp0 = (a - d) * SEC_0;
-    let tmp1 = (b - c) * SEC_1;
+    let tmp0 = (a - d) * SEC_HALF_4[0];
+    let tmp1 = (b - c) * SEC_HALF_4[1];
     let out0 = (tmp0 + tmp1) / 4.0;
     let out1 = (tmp0 - tmp1) / 4.0;
     [
@@ -34,11 +29,24 @@ pub fn inverse4(a: f32, b: f32, c: f32, d: f32) -> [f32; 4]
 {
     let tmp0 = b * SQRT_2;
     let tmp1 = b + d;
-    let out0 = (tmp0 + tmp1) * SEC_0;
-    let out1 = (tmp0 - tmp1) * SEC_1;
+    let out0 = (tmp0 + tmp1) * SEC_HALF_4[0];
+    let out1 = (tmp0 - tmp1) * SEC_HALF_4[1];
     let sum02 = a + c;
     let sub02 = a - c;
     [sum02 + out0, sub02 + out1, sub02 - out1, sum02 - out0]
+}
+
+/// The inverse of eight numbers.
+#[tactic(auto, unfolding(crate::specs::Transform::idct, crate::specs::Secants::secants))]
+pub fn inverse8(numbers: &[f32; 8]) -> [f32; 8]
+    ensures { result ≡ idct 3 numbers.now }
+{
+    let [a, b, c, d, e, f, g, h] = *numbers;
+    let even = inverse4(a, c, e, g);
+    let odd = inverse4(b * SQRT_2, d + b, f + d, h + f);
+    let mut out = [0.0; 8];
+    join(&even, &odd, &SEC_HALF_8, &mut out);
+    out
 }
 
 /// The transform of a list of four, from its four numbers.
@@ -54,9 +62,9 @@ pub fn dct4(a: f32, b: f32, c: f32, d: f32, direction: DctDirection) -> [f32; 4]
 /// The odd place i of a list, plus the odd before it; the first times √2.
 fn odd_sum(io: &[f32], i: usize) -> f32
     requires { i + i + 1 < length io.now }
-    ensures first { i ≡ 0 → result ≡ times (at io.now 1) root2 }
-    ensures later { (i ≢ 0) → result ≡ plus (at io.now (2 * i + 1)) (at io.now (2 * i - 1)) }
+    ensures { result ≡ odd_sum_of io.now i }
 {
+    // kept as a choice by the place, as the definition has it: the first odd place has none before it
     if i == 0 {
         io[1] * SQRT_2
     } else {
@@ -71,8 +79,8 @@ fn deal(io: &[f32], front: &mut [f32], back: &mut [f32])
     ensures front { front.new ≡ evens (length front.old) io.now }
     ensures back { back.new ≡ odds (length front.old) io.now }
 {
-    for i in 0..front.len() {
-        front[i] = io[2 * i];
+    for (i, even) in front.iter_mut().enumerate() {
+        *even = io[2 * i];
         back[i] = odd_sum(io, i);
     }
 }
@@ -94,8 +102,8 @@ fn join(front: &[f32], back: &[f32], sec: &[f32], io: &mut [f32])
     ensures { io.new ≡ joined (length front.now) sec.now front.now back.now }
 {
     let n = io.len();
-    for i in 0..front.len() {
-        let (sum, difference) = butterfly(front[i], back[i], sec[i]);
+    for (i, number) in front.iter().enumerate() {
+        let (sum, difference) = butterfly(*number, back[i], sec[i]);
         io[i] = sum;
         io[n - 1 - i] = difference;
     }
@@ -108,15 +116,14 @@ fn mean(first: f32, last: f32) -> f32
     (first + last) / 2.0
 }
 
-/// Half the difference of two numbers, times their secant. At the length 8 the secant comes before the halving.
-fn slope(half: usize, a: f32, b: f32, sec: f32) -> f32
-    ensures eight { half ≡ 4 → result ≡ over (times (minus a b) sec) two }
-    ensures longer { (half ≡ 4 → ⊥) → result ≡ times (over (minus a b) two) sec }
+/// Half of a difference, times its secant. At the length 8 the secant comes before the halving.
+fn slope(half: usize, difference: f32, sec: f32) -> f32
+    ensures { result ≡ slope_of half difference sec }
 {
     if half == 4 {
-        (a - b) * sec / 2.0
+        difference * sec / 2.0
     } else {
-        (a - b) / 2.0 * sec
+        difference / 2.0 * sec
     }
 }
 
@@ -130,9 +137,9 @@ fn fold(io: &[f32], sec: &[f32], front: &mut [f32], back: &mut [f32])
 {
     let n = io.len();
     let half = front.len();
-    for i in 0..half {
-        front[i] = mean(io[i], io[n - i - 1]);
-        back[i] = slope(half, io[i], io[n - i - 1], sec[i]);
+    for (i, number) in front.iter_mut().enumerate() {
+        *number = mean(io[i], io[n - i - 1]);
+        back[i] = slope(half, io[i] - io[n - i - 1], sec[i]);
     }
 }
 
@@ -141,11 +148,11 @@ fn odd_place(back: &[f32], i: usize) -> f32
     requires { i < length back.now }
     ensures { result ≡ gathered (length back.now) back.now i }
 {
+    // kept as a choice by the place, as the definition has it: only the first is scaled
     let own = if i == 0 { back[0] * SQRT_2 } else { back[i] };
-    if i + 1 < back.len() {
-        own + back[i + 1]
-    } else {
-        own
+    match back.get(i + 1) {
+        Some(next) => own + *next,
+        None => own,
     }
 }
 
@@ -155,8 +162,8 @@ fn weave(front: &[f32], back: &[f32], io: &mut [f32])
     requires halves { length back.now ≡ length front.now }
     ensures { io.new ≡ interleaved (length front.now) front.now back.now }
 {
-    for i in 0..front.len() {
-        io[2 * i] = front[i];
+    for (i, number) in front.iter().enumerate() {
+        io[2 * i] = *number;
         io[2 * i + 1] = odd_place(back, i);
     }
 }
@@ -208,18 +215,7 @@ fn dct(io: &mut [f32], scratch: &mut [f32], direction: DctDirection)
 pub fn is_side(n: usize) -> bool
     ensures { Decides result (Sided n) }
 {
-    match n {
-        1 => true,
-        2 => true,
-        4 => true,
-        8 => true,
-        16 => true,
-        32 => true,
-        64 => true,
-        128 => true,
-        256 => true,
-        _ => false,
-    }
+    n <= 256 && n.is_power_of_two()
 }
 
 /// The transform of a list of 1, 2, 4, .. 256 numbers, in place. The scratch is at least as long; otherwise nothing is written.

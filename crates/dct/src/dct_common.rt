@@ -1,10 +1,9 @@
 //! What the transforms of all lengths share: the direction, the half secants, the scale factors.
 
-ghost use Rattle.std.specs.Prelude.{◌≡◌, ℕ, ◌*◌, ◌^◌, ◌<◌, ◌≤◌, [], map, take, drop, ◌≢◌};
+ghost use Rattle.std.specs.Prelude.{◌≡◌, ℕ, ◌^◌, ◌<◌, ◌≤◌, [], ◌≢◌};
 ghost use Rattle.std.specs.Float.{nan};
-ghost use Rattle.floats.specs.Arith.{float};
 ghost use Rattle.dct.specs.Scale.{scale, scales};
-ghost use Rattle.dct.specs.Secants.{secants, bits_4 as small4, bits_8 as small8, bits_16 as small16, bits_32 as small32, bits_large as large};
+ghost use Rattle.dct.specs.Secants.{secants};
 ghost use Rattle.dct.specs.Table.{Rising};
 ghost use Rattle.dct.specs.Transform.{at};
 
@@ -16,9 +15,9 @@ pub enum DctDirection {
 
 pub const SQRT_2: f32 = 1.4142135;
 
-const SEC_HALF_4: [f32; 2] = [0.5411961, 1.306563];
+pub const SEC_HALF_4: [f32; 2] = [0.5411961, 1.306563];
 
-const SEC_HALF_8: [f32; 4] = [0.5097956, 0.6013449, 0.8999762, 2.5629156];
+pub const SEC_HALF_8: [f32; 4] = [0.5097956, 0.6013449, 0.8999762, 2.5629156];
 
 const SEC_HALF_16: [f32; 8] = [
     0.5024193, 0.5224986, 0.56694406, 0.6468218, 0.7881546, 1.0606776, 1.7224472, 5.1011486,
@@ -68,32 +67,23 @@ const SCALE_F: [f32; 32] = [
     0.7702564, 0.7529834, 0.7352593, 0.71710813, 0.69855434, 0.6796228, 0.6603391,
 ];
 
-/// The half secants 1 / (2 cos ((2k + 1) π / 2n)) for the lengths n from 4 to 32.
-fn sec_half_small(n: usize) -> &'static [f32]
-    requires { n ≤ 32 }
-    ensures four { n ≡ 4 → result.now ≡ map float small4 }
-    ensures eight { n ≡ 8 → result.now ≡ map float small8 }
-    ensures sixteen { n ≡ 16 → result.now ≡ map float small16 }
-    ensures more { n ≡ 32 → result.now ≡ map float small32 }
-    ensures none { (n ≢ 4) → (n ≢ 8) → (n ≢ 16) → (n ≢ 32) → result.now ≡ [] }
+/// The table of a length: the half secants 1 / (2 cos ((2k + 1) π / 2n)) for 4, 8, .. 256, and none for any other.
+#[tactic(auto, unfolding(crate::specs::Secants::secants))]
+fn sec_half_table(n: usize) -> &'static [f32]
+    ensures four { n ≡ 4 → result.now ≡ secants 2 }
+    ensures eight { n ≡ 8 → result.now ≡ secants 3 }
+    ensures sixteen { n ≡ 16 → result.now ≡ secants 4 }
+    ensures thirty_two { n ≡ 32 → result.now ≡ secants 5 }
+    ensures sixty_four { n ≡ 64 → result.now ≡ secants 6 }
+    ensures one_hundred_twenty_eight { n ≡ 128 → result.now ≡ secants 7 }
+    ensures two_hundred_fifty_six { n ≡ 256 → result.now ≡ secants 8 }
+    ensures none { (n ≢ 4) → (n ≢ 8) → (n ≢ 16) → (n ≢ 32) → (n ≢ 64) → (n ≢ 128) → (n ≢ 256) → result.now ≡ [] }
 {
     match n {
         4 => &SEC_HALF_4,
         8 => &SEC_HALF_8,
         16 => &SEC_HALF_16,
         32 => &SEC_HALF_32,
-        _ => &[],
-    }
-}
-
-/// The same for the lengths 64, 128 and 256.
-fn sec_half_large(n: usize) -> &'static [f32]
-    ensures first { n ≡ 64 → result.now ≡ map float (take 32 large) }
-    ensures second { n ≡ 128 → result.now ≡ map float (take 64 (drop 32 large)) }
-    ensures third { n ≡ 256 → result.now ≡ map float (drop 96 large) }
-    ensures none { (n ≢ 64) → (n ≢ 128) → (n ≢ 256) → result.now ≡ [] }
-{
-    match n {
         64 => &SEC_HALF_LARGE[0..32],
         128 => &SEC_HALF_LARGE[32..96],
         256 => &SEC_HALF_LARGE[96..224],
@@ -108,14 +98,11 @@ pub fn sec_half(n: usize) -> &'static [f32]
     ensures rule { Rising result.now }
     ensures none { ((k : ℕ) → 2 ≤ k → k ≤ 8 → n ≢ 2 ^ k) → result.now ≡ [] }
 {
-    if n <= 32 {
-        sec_half_small(n)
-    } else {
-        sec_half_large(n)
-    }
+    sec_half_table(n)
 }
 
 /// The number i of the table.
+// kept as an index below 32: with `SCALE_F.get(i)` the proof stays open, at what the call returns of so long a constant
 fn scale_at(i: usize) -> f32
     requires { i < 32 }
     ensures { result ≡ at scales i }

@@ -6,6 +6,6 @@ mod dct;
 mod dct_common;
 mod strips;
 
-pub use dct::{dct_1d, dct4, is_side};
+pub use dct::{dct_1d, dct4, inverse4, inverse8, is_side};
 pub use dct_common::{DctDirection, scale_f, sec_half};
 pub use strips::inverse_eight;

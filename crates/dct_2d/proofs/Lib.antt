@@ -1,3 +1,4 @@
+pub mod Drawings
 pub mod Paintings
 pub mod Passes
 pub mod Planes

@@ -23,7 +23,8 @@ use Rattle.dct.specs.Transform.{at, dct_of}
 use Rattle.floats.proofs.Powers.{pow_inj}
 use Rattle.dct.proofs.Flat.{at_map}
 use Rattle.dct.proofs.Halves.{two_list}
-use Rattle.dct_2d.proofs.Paintings.{painted_more, painted_alike, painted_none, painted_twice, poured_alike, poured_twice, element_in, element_poured}
+use Rattle.grid.proofs.Laws.{painted_more, painted_alike, painted_none, painted_twice}
+use Rattle.dct_2d.proofs.Paintings.{poured_alike, poured_twice, element_in, element_poured}
 
 -- ---- places
 
@@ -77,7 +78,7 @@ line_of_dct d (suc (suc k)) v r e l f o =
 
 module _ (s : Shape) (ax : Axis) (i : ℕ) (c xs : List Float) (l : Lawful s (length xs)) where
   pub drawn_none : xs ≡ painted s (drawn ax i 0 c) xs
-  drawn_none = painted_none s xs l (drawn ax i 0 c) (λ p q old h. grind (arith, nat_tests))
+  drawn_none = painted_none s (drawn ax i 0 c) xs l (λ p q old h. grind (arith, nat_tests))
 
   pub drawn_more : (k : ℕ) → Inside s (fore ax i k) (back ax i k)
       → set (painted s (drawn ax i k c) xs) (index s (fore ax i k) (back ax i k)) (at c k) ≡ painted s (drawn ax i (k + 1) c) xs
@@ -86,15 +87,15 @@ module _ (s : Shape) (ax : Axis) (i : ℕ) (c xs : List Float) (l : Lawful s (le
       go : (ax : Axis) → Inside s (fore ax i k) (back ax i k)
           → set (painted s (drawn ax i k c) xs) (index s (fore ax i k) (back ax i k)) (at c k) ≡ painted s (drawn ax i (k + 1) c) xs
       go Rows h =
-          painted_more s xs l (drawn Rows i k c) (drawn Rows i (k + 1) c) k i (at c k) h (λ d. grind (arith, nat_tests)) (λ p q old m ne. grind (arith, nat_tests))
+          painted_more s (drawn Rows i k c) (drawn Rows i (k + 1) c) xs k i (at c k) l h (λ d. grind (arith, nat_tests)) (λ p q old m ne. grind (arith, nat_tests))
       go Columns h =
-          painted_more s xs l (drawn Columns i k c) (drawn Columns i (k + 1) c) i k (at c k) h (λ d. grind (arith, nat_tests)) (λ p q old m ne. grind (arith, nat_tests))
+          painted_more s (drawn Columns i k c) (drawn Columns i (k + 1) c) xs i k (at c k) l h (λ d. grind (arith, nat_tests)) (λ p q old m ne. grind (arith, nat_tests))
 
 -- ---- line by line
 
 module _ (s : Shape) (ax : Axis) (p : Patch) (xs : List Float) (l : Lawful s (length xs)) where
   pub lined_none : xs ≡ painted s (lined_to ax 0 p) xs
-  lined_none = painted_none s xs l (lined_to ax 0 p) (λ v w old h. grind (arith, nat_tests))
+  lined_none = painted_none s (lined_to ax 0 p) xs l (λ v w old h. grind (arith, nat_tests))
 
   pub lined_more : (i n : ℕ) (c : List Float) → n ≡ back ax s.width s.height → ((k : ℕ) → k < n → at c k ≡ p (fore ax i k) (back ax i k))
       → painted s (drawn ax i n c) (painted s (lined_to ax i p) xs) ≡ painted s (lined_to ax (i + 1) p) xs
@@ -103,13 +104,13 @@ module _ (s : Shape) (ax : Axis) (p : Patch) (xs : List Float) (l : Lawful s (le
       go : (ax : Axis) → n ≡ back ax s.width s.height → ((k : ℕ) → k < n → at c k ≡ p (fore ax i k) (back ax i k))
           → painted s (drawn ax i n c) (painted s (lined_to ax i p) xs) ≡ painted s (lined_to ax (i + 1) p) xs
       go Rows e h =
-          painted_twice s xs l (lined_to Rows i p) (drawn Rows i n c) (lined_to Rows (i + 1) p)
+          painted_twice s (lined_to Rows i p) (drawn Rows i n c) (lined_to Rows (i + 1) p) xs l
           (λ x y old m. let a = m.across in let t = h x (omega arith) in step x y old (omega arith) t)
         where
           step : (x y : ℕ) (old : Float) → x < n → at c x ≡ p x i → drawn Rows i n c x y (lined_to Rows i p x y old) ≡ lined_to Rows (i + 1) p x y old
           step x y old a t = grind (arith, nat_tests)
       go Columns e h =
-          painted_twice s xs l (lined_to Columns i p) (drawn Columns i n c) (lined_to Columns (i + 1) p)
+          painted_twice s (lined_to Columns i p) (drawn Columns i n c) (lined_to Columns (i + 1) p) xs l
           (λ x y old m. let a = m.down in let t = h y (omega arith) in step x y old (omega arith) t)
         where
           step : (x y : ℕ) (old : Float) → y < n → at c y ≡ p i y → drawn Columns i n c x y (lined_to Columns i p x y old) ≡ lined_to Columns (i + 1) p x y old
@@ -120,8 +121,8 @@ module _ (s : Shape) (ax : Axis) (p : Patch) (xs : List Float) (l : Lawful s (le
   lined_all i e = go ax e
     where
       go : (ax : Axis) → fore ax s.width s.height ≤ i → painted s (lined_to ax i p) xs ≡ painted s (λ x y _. p x y) xs
-      go Rows e = painted_alike s xs l (lined_to Rows i p) (λ x y _. p x y) (λ x y old m. let a = m.down in grind (arith, nat_tests))
-      go Columns e = painted_alike s xs l (lined_to Columns i p) (λ x y _. p x y) (λ x y old m. let a = m.across in grind (arith, nat_tests))
+      go Rows e = painted_alike s (lined_to Rows i p) (λ x y _. p x y) xs l (λ x y old m. let a = m.down in grind (arith, nat_tests))
+      go Columns e = painted_alike s (lined_to Columns i p) (λ x y _. p x y) xs l (λ x y old m. let a = m.across in grind (arith, nat_tests))
 
   -- a line that is not yet reached is as it was
   pub line_kept : (i j k : ℕ) → i ≤ j → j < fore ax s.width s.height → k < back ax s.width s.height
@@ -258,7 +259,7 @@ module _ (s : Shape) (p : Patch) (xs : List Float) (l : Lawful s (length xs)) (w
   some_more : (n x y : ℕ) → x < 2 → y < 2 → y + y + x ≡ n
       → set (painted s (some n) xs) (index s x y) (p x y) ≡ painted s (some (n + 1)) xs
   some_more n x y hx hy e =
-      painted_more s xs l (some n) (some (n + 1)) x y (p x y) (record { across = omega arith; down = omega arith })
+      painted_more s (some n) (some (n + 1)) xs x y (p x y) l (record { across = omega arith; down = omega arith })
       (λ d. grind (arith, nat_tests))
       (λ u v old m ne. let a = m.across in let b = m.down in other u v old (omega arith) (omega arith) ne)
     where
@@ -275,9 +276,9 @@ module _ (s : Shape) (p : Patch) (xs : List Float) (l : Lawful s (length xs)) (w
       ap₂ (λ (t u : Float). set (set (set (set xs (index s 0 0) t) (index s 1 0) u) (index s 0 1) C) (index s 1 1) D) a b
       ∙ ap₂ (λ (t u : Float). set (set (set (set xs (index s 0 0) (p 0 0)) (index s 1 0) (p 1 0)) (index s 0 1) t) (index s 1 1) u) c d
       ∙ ap (λ (v : List Float). set (set (set (set v (index s 0 0) (p 0 0)) (index s 1 0) (p 1 0)) (index s 0 1) (p 0 1)) (index s 1 1) (p 1 1))
-      (painted_none s xs l (some 0) (λ x y old h. grind (arith, nat_tests)))
+      (painted_none s (some 0) xs l (λ x y old h. grind (arith, nat_tests)))
       ∙ ap (λ (v : List Float). set (set (set v (index s 1 0) (p 1 0)) (index s 0 1) (p 0 1)) (index s 1 1) (p 1 1)) (some_more 0 0 0 (omega arith) (omega arith) refl)
       ∙ ap (λ (v : List Float). set (set v (index s 0 1) (p 0 1)) (index s 1 1) (p 1 1)) (some_more 1 1 0 (omega arith) (omega arith) refl)
       ∙ ap (λ (v : List Float). set v (index s 1 1) (p 1 1)) (some_more 2 0 1 (omega arith) (omega arith) refl)
       ∙ some_more 3 1 1 (omega arith) (omega arith) refl
-      ∙ painted_alike s xs l (some 4) (λ x y _. p x y) (λ x y old h. let a = h.across in let b = h.down in grind (arith, nat_tests))
+      ∙ painted_alike s (some 4) (λ x y _. p x y) xs l (λ x y old h. let a = h.across in let b = h.down in grind (arith, nat_tests))

@@ -21,18 +21,18 @@ use Rattle.dct.specs.Transform.{at, dct_of, idct}
 use Rattle.floats.proofs.Powers.{pow_inj}
 use Rattle.dct.proofs.Flat.{at_map}
 use Rattle.dct.proofs.Lanes.{maps_same}
-use Rattle.dct_2d.proofs.Paintings.{painted_more, painted_none, painted_twice}
+use Rattle.grid.proofs.Laws.{painted_more, painted_none, painted_twice}
 use Rattle.dct_2d.proofs.Passes.{line_kept, lined_at}
 
 -- numbers side by side
 module _ (s : Shape) (x y : ℕ) (c xs : List Float) (l : Lawful s (length xs)) where
   pub eight_none : xs ≡ painted s (eight_drawn x y 0 c) xs
-  eight_none = painted_none s xs l (eight_drawn x y 0 c) (λ p q old h. grind (arith, nat_tests))
+  eight_none = painted_none s (eight_drawn x y 0 c) xs l (λ p q old h. grind (arith, nat_tests))
 
   pub eight_more : (m : ℕ) → Inside s (x + m) y
       → set (painted s (eight_drawn x y m c) xs) (index s (x + m) y) (at c m) ≡ painted s (eight_drawn x y (m + 1) c) xs
   eight_more m h =
-      painted_more s xs l (eight_drawn x y m c) (eight_drawn x y (m + 1) c) (x + m) y (at c m) h
+      painted_more s (eight_drawn x y m c) (eight_drawn x y (m + 1) c) xs (x + m) y (at c m) l h
       (λ d. rw e (grind (arith, nat_tests))) (λ p q old t ne. grind (arith, nat_tests))
     where
       e : x + m - x ≡ m
@@ -42,7 +42,7 @@ module _ (s : Shape) (x y : ℕ) (c xs : List Float) (l : Lawful s (length xs)) 
 pub drawn_eight : (s : Shape) (y m : ℕ) (c r xs : List Float) (l : Lawful s (length xs)) → ((j : ℕ) → j < 8 → at r j ≡ at c (m + j))
     → painted s (eight_drawn m y 8 r) (painted s (drawn Rows y m c) xs) ≡ painted s (drawn Rows y (m + 8) c) xs
 drawn_eight s y m c r xs l e =
-    painted_twice s xs l (drawn Rows y m c) (eight_drawn m y 8 r) (drawn Rows y (m + 8) c)
+    painted_twice s (drawn Rows y m c) (eight_drawn m y 8 r) (drawn Rows y (m + 8) c) xs l
     (λ p q old h. step p q old (cases_eq q y) (cases_lt p m) (cases_lt p (m + 8)))
   where
     step : (p q : ℕ) (old : Float) → (q ≡ y) ⊎ (q ≡ y → ⊥) → (p < m) ⊎ (m ≤ p) → (p < m + 8) ⊎ (m + 8 ≤ p)
@@ -58,11 +58,11 @@ drawn_eight s y m c r xs l e =
 -- strips, by their lines
 module _ (s : Shape) (i n : ℕ) (c xs : List Float) (l : Lawful s (length xs)) where
   pub lines_none : xs ≡ painted s (strip_drawn Rows i 0 n c) xs
-  lines_none = painted_none s xs l (strip_drawn Rows i 0 n c) (λ p q old h. grind (arith, nat_tests))
+  lines_none = painted_none s (strip_drawn Rows i 0 n c) xs l (λ p q old h. grind (arith, nat_tests))
 
   pub lines_more : (m : ℕ) → painted s (drawn Rows (i + m) n (lanes n c m)) (painted s (strip_drawn Rows i m n c) xs) ≡ painted s (strip_drawn Rows i (m + 1) n c) xs
   lines_more m =
-      painted_twice s xs l (strip_drawn Rows i m n c) (drawn Rows (i + m) n (lanes n c m)) (strip_drawn Rows i (m + 1) n c)
+      painted_twice s (strip_drawn Rows i m n c) (drawn Rows (i + m) n (lanes n c m)) (strip_drawn Rows i (m + 1) n c) xs l
       (λ x y old h. step x y old (cases_eq y (i + m)) (cases_lt x n))
     where
       e : i + m - i ≡ m
@@ -80,12 +80,12 @@ module _ (s : Shape) (i n : ℕ) (c xs : List Float) (l : Lawful s (length xs)) 
 -- strips, by their rows
 module _ (s : Shape) (i : ℕ) (c xs : List Float) (l : Lawful s (length xs)) where
   pub strip_none : xs ≡ painted s (strip_drawn Columns i 8 0 c) xs
-  strip_none = painted_none s xs l (strip_drawn Columns i 8 0 c) (λ p q old h. grind (arith, nat_tests))
+  strip_none = painted_none s (strip_drawn Columns i 8 0 c) xs l (λ p q old h. grind (arith, nat_tests))
 
   pub strip_more : (k : ℕ) (r : List Float) → ((j : ℕ) → j < 8 → at r j ≡ lane c j k)
       → painted s (eight_drawn i k 8 r) (painted s (strip_drawn Columns i 8 k c) xs) ≡ painted s (strip_drawn Columns i 8 (k + 1) c) xs
   strip_more k r e =
-      painted_twice s xs l (strip_drawn Columns i 8 k c) (eight_drawn i k 8 r) (strip_drawn Columns i 8 (k + 1) c)
+      painted_twice s (strip_drawn Columns i 8 k c) (eight_drawn i k 8 r) (strip_drawn Columns i 8 (k + 1) c) xs l
       (λ x y old h. step x y old (cases_eq y k) (cases_lt x i) (cases_lt x (i + 8)))
     where
       step : (x y : ℕ) (old : Float) → (y ≡ k) ⊎ (y ≡ k → ⊥) → (x < i) ⊎ (i ≤ x) → (x < i + 8) ⊎ (i + 8 ≤ x)
@@ -114,12 +114,12 @@ module _ (s : Shape) (ax : Axis) (i : ℕ) (c xs : List Float) (l : Lawful s (le
       go : (ax : Axis) → ((x k : ℕ) → x < 8 → k < back ax s.width s.height → lane c x k ≡ p (fore ax (i + x) k) (back ax (i + x) k))
           → painted s (strip_drawn ax i 8 (back ax s.width s.height) c) (painted s (lined_to ax i p) xs) ≡ painted s (lined_to ax (i + 8) p) xs
       go Rows e =
-          painted_twice s xs l (lined_to Rows i p) (strip_drawn Rows i 8 s.width c) (lined_to Rows (i + 8) p)
+          painted_twice s (lined_to Rows i p) (strip_drawn Rows i 8 s.width c) (lined_to Rows (i + 8) p) xs l
           (λ x y old h.
           step s.width y x (p x y) old h.across
           (λ u v. let r : i + (y - i) ≡ y = omega arith in e (y - i) x (omega arith) h.across ∙ ap (p x) r))
       go Columns e =
-          painted_twice s xs l (lined_to Columns i p) (strip_drawn Columns i 8 s.height c) (lined_to Columns (i + 8) p)
+          painted_twice s (lined_to Columns i p) (strip_drawn Columns i 8 s.height c) (lined_to Columns (i + 8) p) xs l
           (λ x y old h.
           step s.height x y (p x y) old h.down
           (λ u v. let r : i + (x - i) ≡ x = omega arith in e (x - i) y (omega arith) h.down ∙ ap (λ (t : ℕ). p t y) r))

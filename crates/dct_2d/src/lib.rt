@@ -4,17 +4,17 @@
 
 ghost use Rattle.std.specs.Prelude.{◌≡◌, ℕ, ◌^◌, ◌≤◌, map, length, Decides};
 ghost use Rattle.std.specs.List.{range_with_len};
-ghost use Rattle.grid.specs.Index.{Lawful};
+ghost use Rattle.grid.specs.Drawn.{Drawn};
 ghost use Rattle.dct.specs.Sides.{Sided};
 ghost use Rattle.dct.specs.Transform.{at};
 ghost use Rattle.dct_2d.specs.Lines.{back, lined};
 ghost use Rattle.dct_2d.specs.Plane.{factor, line as line_of, plane, square as square_of};
 ghost use Rattle.dct_2d.specs.Replaced.{replaced, Ready};
 
-use crate::lines::{Axis, gather, get, put, scatter};
+use crate::lines::{Axis, gather, scatter};
 use crate::strips::inverse_patch;
 use dct::{DctDirection, dct_1d, is_side};
-use grid::Shape;
+use grid::{Canvas, Shape};
 
 mod lines;
 mod strips;
@@ -46,70 +46,66 @@ fn dct_line(line: &mut [f32], scratch: &mut [f32], direction: DctDirection)
 }
 
 /// Each line transformed.
-fn dct_lines(
-    list: &mut [f32],
-    shape: Shape,
-    axis: Axis,
-    scratch: &mut [f32],
-    direction: DctDirection,
-)
-    requires lawful { Lawful shape (length list.old) }
-    requires sided { Sided (back axis shape.width shape.height) }
+fn dct_lines(canvas: &mut Canvas<f32>, axis: Axis, scratch: &mut [f32], direction: DctDirection)
+    requires sided { Sided (back axis canvas.old.shape.width canvas.old.shape.height) }
     requires room { 512 ≤ length scratch.old }
-    ensures { (k : ℕ) → back axis shape.width shape.height ≡ 2 ^ k → list.new ≡ replaced (lined direction axis k) shape list.old }
+    ensures { (k : ℕ) → back axis canvas.old.shape.width canvas.old.shape.height ≡ 2 ^ k → Drawn canvas.old canvas.new (replaced (lined direction axis k) canvas.old.shape canvas.old.list.now) }
 {
+    let shape = canvas.shape;
     let (line, rest) = scratch.split_at_mut(axis.length(shape));
+    // counted: the lines of a patch are no list
     for i in 0..axis.count(shape) {
-        gather(list, shape, axis, i, line);
+        gather(canvas, axis, i, line);
         dct_line(line, rest, direction);
-        scatter(line, list, shape, axis, i);
+        scatter(line, canvas, axis, i);
     }
 }
 
 /// Two rows of two numbers: each becomes one sum of the four.
-fn dct_square(list: &mut [f32], shape: Shape, direction: DctDirection)
-    requires lawful { Lawful shape (length list.old) }
-    requires wide { shape.width ≡ 2 }
-    requires high { shape.height ≡ 2 }
-    ensures { list.new ≡ replaced (square_of direction) shape list.old }
+fn dct_square(canvas: &mut Canvas<f32>, direction: DctDirection)
+    requires wide { canvas.old.shape.width ≡ 2 }
+    requires high { canvas.old.shape.height ≡ 2 }
+    ensures { Drawn canvas.old canvas.new (replaced (square_of direction) canvas.old.shape canvas.old.list.now) }
 {
     let mul = pair_factor(direction);
-    let v00 = get(list, shape, 0, 0);
-    let v01 = get(list, shape, 1, 0);
-    let v10 = get(list, shape, 0, 1);
-    let v11 = get(list, shape, 1, 1);
-    put(list, shape, 0, 0, (v00 + v01 + v10 + v11) * mul * mul);
-    put(list, shape, 1, 0, (v00 - v01 + v10 - v11) * mul * mul);
-    put(list, shape, 0, 1, (v00 + v01 - v10 - v11) * mul * mul);
-    put(list, shape, 1, 1, (v00 - v01 - v10 + v11) * mul * mul);
+    let v00 = canvas.get(0, 0);
+    let v01 = canvas.get(1, 0);
+    let v10 = canvas.get(0, 1);
+    let v11 = canvas.get(1, 1);
+    canvas.set(0, 0, (v00 + v01 + v10 + v11) * mul * mul);
+    canvas.set(1, 0, (v00 - v01 + v10 - v11) * mul * mul);
+    canvas.set(0, 1, (v00 + v01 - v10 - v11) * mul * mul);
+    canvas.set(1, 1, (v00 - v01 - v10 + v11) * mul * mul);
 }
 
 /// The transform of a patch, line by line: rows, then columns; but of two rows of four and more numbers, columns first.
-fn transform_lines(list: &mut [f32], shape: Shape, scratch: &mut [f32], direction: DctDirection)
-    requires { (a b : ℕ) × Ready a b shape (length list.old) (length scratch.old) }
-    ensures { (a b : ℕ) → Ready a b shape (length list.old) (length scratch.old) → list.new ≡ replaced (plane direction a b) shape list.old }
+fn transform_lines(canvas: &mut Canvas<f32>, scratch: &mut [f32], direction: DctDirection)
+    requires { (a b : ℕ) × Ready a b canvas.old.shape (length canvas.old.list.now) (length scratch.old) }
+    ensures { (a b : ℕ) → Ready a b canvas.old.shape (length canvas.old.list.now) (length scratch.old) → Drawn canvas.old canvas.new (replaced (plane direction a b) canvas.old.shape canvas.old.list.now) }
 {
+    let shape = canvas.shape;
     if shape.height == 2 && shape.width == 2 {
-        dct_square(list, shape, direction);
+        dct_square(canvas, direction);
     } else if shape.height == 2 && shape.width > 2 {
-        dct_lines(list, shape, Axis::Columns, scratch, direction);
-        dct_lines(list, shape, Axis::Rows, scratch, direction);
+        dct_lines(canvas, Axis::Columns, scratch, direction);
+        dct_lines(canvas, Axis::Rows, scratch, direction);
     } else {
-        dct_lines(list, shape, Axis::Rows, scratch, direction);
-        dct_lines(list, shape, Axis::Columns, scratch, direction);
+        dct_lines(canvas, Axis::Rows, scratch, direction);
+        dct_lines(canvas, Axis::Columns, scratch, direction);
     }
 }
 
 /// The transform of a patch. The inverse of sides from 8 on takes eight lines at a time.
-fn transform(list: &mut [f32], shape: Shape, scratch: &mut [f32], direction: DctDirection)
-    requires { (a b : ℕ) × Ready a b shape (length list.old) (length scratch.old) }
-    ensures { (a b : ℕ) → Ready a b shape (length list.old) (length scratch.old) → list.new ≡ replaced (plane direction a b) shape list.old }
+fn transform(canvas: &mut Canvas<f32>, scratch: &mut [f32], direction: DctDirection)
+    requires { (a b : ℕ) × Ready a b canvas.old.shape (length canvas.old.list.now) (length scratch.old) }
+    ensures { (a b : ℕ) → Ready a b canvas.old.shape (length canvas.old.list.now) (length scratch.old) → Drawn canvas.old canvas.new (replaced (plane direction a b) canvas.old.shape canvas.old.list.now) }
 {
+    let shape = canvas.shape;
     match direction {
         DctDirection::Inverse if shape.width >= 8 && shape.height >= 8 => inverse_patch(
-            list, shape, scratch,
+            canvas, scratch,
         ),
-        _ => transform_lines(list, shape, scratch, direction),
+        _ => transform_lines(canvas, scratch, direction),
     }
 }
 
@@ -127,6 +123,7 @@ pub fn dct_2d(list: &mut [f32], shape: Shape, scratch: &mut [f32], direction: Dc
     ensures idle { ((a b : ℕ) → Ready a b shape (length list.old) (length scratch.old) → ⊥) → list.new ≡ list.old }
 {
     if is_ready(shape, list.len(), scratch.len()) {
-        transform(list, shape, scratch, direction);
+        let canvas = &mut Canvas { list, shape };
+        transform(canvas, scratch, direction);
     }
 }

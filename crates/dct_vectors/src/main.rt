@@ -6,6 +6,7 @@
 use dct::DctDirection;
 use dct_2d::dct_2d;
 use grid::Shape;
+use std::fmt;
 use std::num::{f32_from_bits_with_nan, f32_to_bits_with_nan};
 
 /// The numbers that a patch is filled with.
@@ -23,17 +24,27 @@ enum Kind {
     Sparse,
 }
 
-impl Kind {
-    fn name(self) -> &'static str {
-        match self {
+const KINDS: [Kind; 5] = [
+    Kind::Wide,
+    Kind::Subnormal,
+    Kind::Large,
+    Kind::Special,
+    Kind::Sparse,
+];
+
+impl fmt::Display for Kind {
+    fn fmt<W: fmt::Write>(&self, f: &mut fmt::Formatter<W>) -> fmt::Result {
+        f.write_str(match self {
             Kind::Wide => "wide",
             Kind::Subnormal => "subnormal",
             Kind::Large => "large",
             Kind::Special => "special",
             Kind::Sparse => "sparse",
-        }
+        })
     }
+}
 
+impl Kind {
     fn bits(self, draw: u64) -> u32 {
         let bits = (draw >> 32) as u32;
         let choice = ((draw >> 8) % 256) as u32;
@@ -58,6 +69,19 @@ impl Kind {
     }
 }
 
+/// A direction by its name.
+#[derive(Clone, Copy)]
+struct Way(DctDirection);
+
+impl fmt::Display for Way {
+    fn fmt<W: fmt::Write>(&self, f: &mut fmt::Formatter<W>) -> fmt::Result {
+        f.write_str(match self.0 {
+            DctDirection::Forward => "forward",
+            DctDirection::Inverse => "inverse",
+        })
+    }
+}
+
 /// xorshift64*
 fn next(state: u64) -> u64 {
     let a = state ^ (state >> 12);
@@ -75,11 +99,9 @@ fn fill(list: &mut [f32], kind: Kind, seed: u64) {
 
 /// FNV-1a over the bits, word by word; every NaN counts as one.
 fn hash(list: &[f32]) -> u64 {
-    let mut hash: u64 = 0xcbf2_9ce4_8422_2325;
-    for v in list.iter() {
-        hash = (hash ^ f32_to_bits_with_nan(*v) as u64).wrapping_mul(0x100_0000_01b3);
-    }
-    hash
+    list.iter().fold(0xcbf2_9ce4_8422_2325, |hash: u64, v| {
+        (hash ^ f32_to_bits_with_nan(*v) as u64).wrapping_mul(0x100_0000_01b3)
+    })
 }
 
 /// One line: the whole list is hashed, with what lies beyond the patch's width.
@@ -90,42 +112,27 @@ fn show(
     kind: Kind,
     direction: DctDirection,
 ) -> std::io::Result<()> {
-    let width = width.min(256);
-    let height = height.min(256);
-    let stride = width + 3;
-    let mut list = vec![in rt.alloc(); 0.0f32; stride * height]?;
-    let mut scratch = [0.0; 512];
-    fill(&mut list, kind, (width * 512 + height) as u64);
-    dct_2d(
-        &mut list,
-        Shape {
-            width,
-            height,
-            stride,
-        },
-        &mut scratch,
-        direction,
-    );
-    let way = match direction {
-        DctDirection::Forward => "forward",
-        DctDirection::Inverse => "inverse",
+    let stride = width.saturating_add(3);
+    let mut list = vec![in rt.alloc(); 0.0f32; stride.saturating_mul(height)]?;
+    let seed = width.wrapping_mul(512).wrapping_add(height);
+    fill(&mut list, kind, seed as u64);
+    let shape = Shape {
+        width,
+        height,
+        stride,
     };
-    let name = kind.name();
+    dct_2d(&mut list, shape, &mut [0.0; 512], direction);
+    let way = Way(direction);
     let sum = hash(&list);
-    println!(rt; "{way} {width} {height} {name} {sum:016x}")
+    println!(rt; "{way} {width} {height} {kind} {sum:016x}")
 }
 
 /// Both directions and all kinds of numbers at one size.
 fn show_size(rt: &HostRuntime, width: usize, height: usize) -> std::io::Result<()> {
-    for kind in [
-        Kind::Wide,
-        Kind::Subnormal,
-        Kind::Large,
-        Kind::Special,
-        Kind::Sparse,
-    ] {
-        show(rt, width, height, kind, DctDirection::Forward)?;
-        show(rt, width, height, kind, DctDirection::Inverse)?;
+    for kind in KINDS {
+        for direction in [DctDirection::Forward, DctDirection::Inverse] {
+            show(rt, width, height, kind, direction)?;
+        }
     }
     Ok(())
 }

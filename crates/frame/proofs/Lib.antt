@@ -3,3 +3,4 @@ pub mod Rectangle
 pub mod Stays
 pub mod Counting
 pub mod Placed
+mod Judging

@@ -1,18 +1,18 @@
 //! `open` and `place`.
 
 ghost use Rattle.std.specs.Prelude.{◌≡◌, ℕ, ◌+◌, ◌<◌, ◌≤◌, true, ◌&&◌, length, nat_le};
-ghost use Rattle.grid.specs.Index.{Lawful};
 ghost use Rattle.grid.specs.Became.{Became};
 ghost use Rattle.refusal.specs.Verdicts.{kept_or};
+ghost use Rattle.kinds.specs.Kinds.{size_of};
 ghost use Rattle.varmap.specs.Cells.{cells};
-ghost use Rattle.frame.specs.Placing.{cells_ok, open_judged, Opened, emptied, stamp, free_checked, place_judged, place_answer, placed};
+ghost use Rattle.frame.specs.Placing.{cells_ok, open_judged, Opened, emptied, stamp, free_checked, sized_placing, place_judged, place_answer, placed};
 
 use crate::frame::Frame;
 use crate::stages::Stage;
-use grid::{Area, Brush, Grid, View};
+use grid::{Area, Brush, Grid, Raster, View};
 use kinds::{Size, kind_size};
 use refusal::{Reason, Refusal, require};
-use varmap::{Cell, Record, check_map, hf_mul_in_range};
+use varmap::{Cell, Map, Record, hf_mul_in_range};
 
 impl Frame {
     /// Empties the map, and gives a frame of w8 × h8 cells in which nothing is placed yet.
@@ -31,6 +31,7 @@ impl Frame {
     }
 
     /// Places a varblock of the kind, with its lead at (x, y).
+    // a kind is a number here and below, so that one that is not carried can be passed and refused
     pub fn place(
         &self,
         map: &mut Grid<Cell>,
@@ -65,20 +66,35 @@ impl Frame {
         ensures { result ≡ place_judged self.now.w8 self.now.h8 self.now.stage map.entry.shape map.entry.list.now kind x y hf_mul }
     {
         require(self.stage.is_placing(), Reason::Turn)?;
-        require(map.fits(self.w8, self.h8), Reason::Shape)?;
-        check_map(map, self.w8, self.h8)?;
-        let Some(size) = kind_size(kind) else {
-            return Err(Refusal::at(Reason::Kind, 0, 0, 0));
-        };
+        let grid = map.sized(self.w8, self.h8).ok_or(Reason::Shape)?;
+        let map = Map::checked(grid)?;
+        self.judge_block(map, kind, x, y, hf_mul)
+    }
+
+    /// The size of the varblock, if it may be placed in this map of the frame.
+    fn judge_block(
+        &self,
+        map: Map<'_>,
+        kind: u32,
+        x: usize,
+        y: usize,
+        hf_mul: u32,
+    ) -> Result<Size, Refusal>
+        requires width { map.grid.shape.width ≡ self.now.w8 }
+        requires height { map.grid.shape.height ≡ self.now.h8 }
+        ensures { result ≡ sized_placing self.now.w8 self.now.h8 (cells map.entry.grid.shape map.entry.grid.list.now) x y hf_mul (size_of kind) }
+    {
+        let size = kind_size(kind).ok_or(Reason::Kind)?;
         let inside = reaches(self.w8, x, size.width) & reaches(self.h8, y, size.height);
         require(inside, Reason::Place)?;
-        check_free(map, x, y, size)?;
+        check_free(map.grid, x, y, size)?;
         require(hf_mul_in_range(hf_mul), Reason::Range)?;
         Ok(size)
     }
 }
 
 /// Whether a frame may have so many cells across or down.
+// a range of its own, as `hf_mul_in_range` and `is_scale`: the two bounds are the rule
 fn is_cells(n: usize) -> bool
     ensures { result ≡ cells_ok n }
 {
@@ -93,13 +109,13 @@ fn reaches(end: usize, start: usize, len: usize) -> bool
 }
 
 /// Refuses a rectangle of the map for its first cell in row order that is not empty.
-fn check_free(map: View<'_, Cell>, x: usize, y: usize, size: Size) -> Result<(), Refusal>
-    requires lawful { Lawful map.shape (length map.list.now) }
+fn check_free(map: Raster<'_, Cell>, x: usize, y: usize, size: Size) -> Result<(), Refusal>
     requires wide { 1 ≤ size.width }
     requires across { x + size.width ≤ map.shape.width }
     requires down { y + size.height ≤ map.shape.height }
     ensures { result ≡ free_checked (cells map.entry.shape map.entry.list.now) x y size }
 {
+    // counted: the refusal names the place
     for j in 0..size.height {
         for i in 0..size.width {
             if !map.get(x + i, y + j).is_empty() {

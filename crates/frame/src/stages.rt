@@ -17,6 +17,7 @@ pub enum Stage {
 
 impl Stage {
     /// The number that the host knows the stage by.
+    // a method and no `From`: its name says which number
     pub fn number(self) -> u32
         ensures { result ≡ stage_number self }
     {
@@ -27,9 +28,6 @@ impl Stage {
     pub fn is_placing(self) -> bool
         ensures { result ≡ is_placing self }
     {
-        match self {
-            Stage::Placing => true,
-            _ => false,
-        }
+        matches!(self, Stage::Placing)
     }
 }

@@ -2,14 +2,22 @@
 
 #![tactic(auto)]
 
-ghost use Rattle.std.specs.Prelude.{◌≡◌, ℕ, ◌+◌, ◌-◌, ◌*◌, ◌^◌, ◌<◌, ◌≤◌, length, Decides, slice_index_or};
-ghost use Rattle.grid.specs.Index.{index, sub, start, Inside, Lawful, sized};
+ghost use Rattle.std.specs.Prelude.{◌≡◌, ℕ, ◌+◌, ◌-◌, ◌*◌, ◌^◌, ◌<◌, ◌≤◌, length, Decides};
+ghost use Rattle.grid.specs.Index.{index, sub, start, dense, Inside, Lawful, lawful, sized};
 ghost use Rattle.grid.specs.Painted.{painted, patch, solid};
 ghost use Rattle.grid.specs.Became.{Became};
+ghost use Rattle.grid.specs.Plane.{viewed};
+ghost use Rattle.grid.specs.Drawn.{IsRaster};
 
+mod border;
 mod brush;
+mod canvas;
+mod xyb;
 
-pub use brush::{Area, Brush, Solid, Xyb, paint, read, write};
+use border::paint;
+pub use brush::{Area, Brush, Solid};
+pub use canvas::{Canvas, Raster};
+pub use xyb::Xyb;
 
 /// How many elements lie in a row and how many rows there are, and how far apart two rows begin.
 #[derive(Clone, Copy)]
@@ -20,6 +28,17 @@ pub struct Shape {
 }
 
 impl Shape {
+    /// Rows that follow each other with nothing between them.
+    pub fn dense(width: usize, height: usize) -> Shape
+        ensures { result ≡ dense width height }
+    {
+        Shape {
+            width,
+            height,
+            stride: width,
+        }
+    }
+
     /// Whether a list of `len` elements has room for a grid of this shape, and the shape is within its bounds.
     pub fn is_lawful(self, len: usize) -> bool
         ensures { Decides result (Lawful self len) }
@@ -39,6 +58,14 @@ impl Shape {
         ensures { Decides result ((self.height - 1) * self.stride + self.width ≤ len) }
     {
         self.width <= len && self.height - 1 <= (len - self.width) / self.stride
+    }
+
+    /// Whether it is a lawful grid of w × h elements over a list of `len`.
+    pub fn is_sized(self, w: usize, h: usize, len: usize) -> bool
+        ensures { result ≡ sized w h self len }
+    {
+        let lawful = self.is_lawful(len);
+        (self.width == w) & (self.height == h) & lawful
     }
 
     /// The whole of it.
@@ -115,11 +142,11 @@ impl<'a, T: Copy> Grid<'a, T> {
     pub fn fits(&self, w: usize, h: usize) -> bool
         ensures { result ≡ sized w h self.now.shape (length self.now.list.now) }
     {
-        let lawful = self.shape.is_lawful(self.list.len());
-        (self.shape.width == w) & (self.shape.height == h) & lawful
+        self.view().fits(w, h)
     }
 
     /// Each element of the area becomes what the brush makes of it.
+    // beside `Canvas::paint`: a host lends a grid, and learns from its type what was left
     pub fn paint<B: Brush<T>>(&mut self, area: Area, brush: &B)
         requires lawful { Lawful self.old.shape (length self.old.list.now) }
         requires across { area.x + area.width ≤ self.old.shape.width }
@@ -162,16 +189,30 @@ impl<'a, T: Copy> View<'a, T> {
     pub fn fits(self, w: usize, h: usize) -> bool
         ensures { result ≡ sized w h self.entry.shape (length self.entry.list.now) }
     {
-        let lawful = self.shape.is_lawful(self.list.len());
-        (self.shape.width == w) & (self.shape.height == h) & lawful
+        self.shape.is_sized(w, h, self.list.len())
     }
 
-    /// The element (x, y).
-    pub fn get(self, x: usize, y: usize) -> T
-        requires lawful { Lawful self.shape (length self.list.now) }
-        requires inside { Inside self.shape x y }
-        ensures { (d : T) → result ≡ slice_index_or self.entry.list.now (index self.entry.shape x y) d }
+    /// The same grid, if it is lawful.
+    pub fn raster(self) -> Option<Raster<'a, T>>
+        ensures { IsRaster (lawful self.entry.shape (length self.entry.list.now)) (viewed self.entry) result }
     {
-        read(self.list, self.shape, x, y)
+        let View { list, shape } = self;
+        if shape.is_lawful(list.len()) {
+            Some(Raster { list, shape })
+        } else {
+            None
+        }
+    }
+
+    /// The same grid, if it is lawful and has w × h elements.
+    pub fn sized(self, w: usize, h: usize) -> Option<Raster<'a, T>>
+        ensures { IsRaster (sized w h self.entry.shape (length self.entry.list.now)) (viewed self.entry) result }
+    {
+        let View { list, shape } = self;
+        if self.fits(w, h) {
+            Some(Raster { list, shape })
+        } else {
+            None
+        }
     }
 }

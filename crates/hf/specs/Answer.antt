@@ -2,7 +2,7 @@
 use Rattle.std.specs.Prelude.{ℕ, ◌*◌, Bool, ◌&&◌, length, ℤ, Ok, ◌==◌, from_bits, nat_le, Float}
 use Rattle.std.specs.Float.Ieee.{lt, le}
 use Rattle.std.specs.Float.{float_is_finite, binary32}
-use Rattle.grid.specs.declared.brush.Xyb.{Xyb}
+use Rattle.grid.specs.declared.xyb.Xyb.{Xyb}
 use Rattle.grid.specs.Plane.{Plane, fitting}
 use Rattle.refusal.specs.declared.Reason.TheVariants as reason
 use Rattle.refusal.specs.Verdicts.{Verdict, Answer, demand, and_then}
@@ -12,10 +12,11 @@ use Rattle.varmap.specs.Cells.{cells}
 use Rattle.varmap.specs.Map.{map_checked}
 use Rattle.frame.specs.declared.stages.Stage.{Stage}
 use Rattle.frame.specs.Stages.{stage_number}
-use Rattle.channels.specs.Channels.{all_fit}
+use Rattle.grid.specs.Channels.{all_fit}
 use Rattle.channels.specs.Ranges.{range_checked}
+use Rattle.channels.specs.Checked.{all_judged}
 use Rattle.weights.specs.Weights.{Table, weights_finite, placed_weighed}
-use Rattle.hf.specs.declared.checks.Quantiser.{Quantiser}
+use Rattle.hf.specs.declared.quantiser.Quantiser.{Quantiser}
 use Rattle.hf_block.specs.declared.work.Scales.{Scales}
 
 -- TURN: after LF dequantise, LF correlate or LF smooth
@@ -38,6 +39,10 @@ range_judged w h n scale =
     and_then (demand (scale_ok scale) reason.Range)
     (and_then (range_checked w h 0 n.x) (and_then (range_checked w h 1 n.y) (range_checked w h 2 n.b)))
 
+-- the same of grids of any size
+abbrev pub numbers_judged : Xyb (Plane ℤ) → ℕ → Verdict
+numbers_judged n scale = and_then (demand (scale_ok scale) reason.Range) (all_judged n)
+
 -- FLOAT: above 0 and at most 16
 abbrev pub qm_ok : Float → Bool
 qm_ok qm = lt (from_bits binary32 0) qm && le qm (from_bits binary32 0x4180_0000)
@@ -58,6 +63,14 @@ floats_judged t by =
 abbrev pub weights_judged : ℕ → ℕ → (ℕ → ℕ → Record) → Xyb Table → Verdict
 weights_judged w h m t =
     and_then (placed_weighed w h m 0 t.x) (and_then (placed_weighed w h m 1 t.y) (placed_weighed w h m 2 t.b))
+
+-- the rows after SHAPE, of grids of any size
+abbrev pub values_judged : Plane Cell → Xyb (Plane ℤ) → Xyb Table → Quantiser → Answer
+values_judged map n t by =
+    and_then (map_checked map.shape.width map.shape.height (cells map.shape map.list))
+    (and_then (numbers_judged n by.global_scale)
+    (and_then (floats_judged t by)
+    (and_then (weights_judged map.shape.width map.shape.height (cells map.shape map.list) t) (Ok 0))))
 
 -- all rows, from whether the sample grids fit
 abbrev pub hf_dequantise_judged : ℕ → ℕ → Stage → Bool → Plane Cell → Xyb (Plane ℤ) → Xyb Table → Quantiser → Answer

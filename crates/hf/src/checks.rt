@@ -1,68 +1,58 @@
 //! What HF dequantise refuses.
 
-ghost use Rattle.std.specs.Prelude.{◌≡◌, true, length};
-ghost use Rattle.grid.specs.Plane.{viewed, fitting};
-ghost use Rattle.varmap.specs.Cells.{cells};
-ghost use Rattle.varmap.specs.Map.{LawfulMap};
-ghost use Rattle.channels.specs.Channels.{planes};
+ghost use Rattle.std.specs.Prelude.{◌≡◌, Ok, Err, true, false, MatchOption, MatchResult};
+ghost use Rattle.grid.specs.Channels.{all_seen};
+ghost use Rattle.channels.specs.Checked.{all_numbers};
+ghost use Rattle.blocks.specs.Walk.{records};
 ghost use Rattle.weights.specs.Weights.{tables};
-ghost use Rattle.hf.specs.Answer.{hf_dequantise_turn, starts_full, scale_ok, range_judged, qm_ok, floats_ok, floats_judged, weights_judged};
+ghost use Rattle.weights.specs.Kinds.{all_by_kind};
+ghost use Rattle.hf.specs.Answer.{hf_dequantise_turn, starts_full, scale_ok, numbers_judged, qm_ok, floats_ok, floats_judged, weights_judged};
 
-use channels::check_range;
+use crate::quantiser::Quantiser;
+use channels::{Numbers, check_channels};
 use frame::Stage;
-use grid::{View, Xyb};
+use grid::{Raster, Xyb};
 use refusal::{Reason, Refusal, require};
-use varmap::Cell;
-use weights::{Weights, check_finite, check_placed};
-
-/// The numbers that go with a call.
-#[derive(Clone, Copy)]
-pub struct Quantiser {
-    pub global_scale: u32,
-    pub qm_scale: Xyb<f32>,
-    pub quant_bias: Xyb<f32>,
-    pub quant_bias_numerator: f32,
-}
+use varmap::Map;
+use weights::{ByKind, Weights, check_finite, check_placed};
 
 /// Whether HF dequantise is accepted in this stage.
 pub fn is_turn(stage: Stage) -> bool
     ensures { result ≡ hf_dequantise_turn stage }
 {
-    match stage {
-        Stage::LfDequantised | Stage::LfCorrelated | Stage::LfSmoothed => true,
-        _ => false,
-    }
+    matches!(
+        stage,
+        Stage::LfDequantised | Stage::LfCorrelated | Stage::LfSmoothed
+    )
 }
 
-/// Whether each channel has a start for each of the 27 kinds.
-pub fn have_starts(weights: Xyb<Weights>) -> bool
-    ensures { result ≡ starts_full (tables weights.entry) }
+/// The weights of the channels by kind, if each channel has a start for each kind number.
+pub fn by_kind<'w>(weights: Xyb<Weights<'w>>) -> Option<Xyb<ByKind<'w>>>
+    ensures { MatchOption result (starts_full (tables weights.entry) ≡ false) (λ w. (starts_full (tables weights.entry) ≡ true) × (all_by_kind w ≡ tables weights.entry)) }
 {
-    (weights.x.starts.len() == 27) & (weights.y.starts.len() == 27) & (weights.b.starts.len() == 27)
+    Some(Xyb {
+        x: weights.x.by_kind()?,
+        y: weights.y.by_kind()?,
+        b: weights.b.by_kind()?,
+    })
 }
 
+// a range of its own: the two bounds are the rule
 fn is_scale(global_scale: u32) -> bool
     ensures { result ≡ scale_ok global_scale }
 {
     (1 <= global_scale) & (global_scale <= 73_728)
 }
 
-/// The row RANGE, for grids of w × h coefficients.
-pub fn judge_range(
-    w: usize,
-    h: usize,
-    coefficients: Xyb<View<i32>>,
+/// The row RANGE.
+pub fn judge_range<'c>(
+    coefficients: Xyb<Raster<'c, i32>>,
     global_scale: u32,
-) -> Result<(), Refusal>
-    requires x { fitting w h (viewed coefficients.x) ≡ true }
-    requires y { fitting w h (viewed coefficients.y) ≡ true }
-    requires b { fitting w h (viewed coefficients.b) ≡ true }
-    ensures { result ≡ range_judged w h (planes (viewed coefficients.entry.x) (viewed coefficients.entry.y) (viewed coefficients.entry.b)) global_scale }
+) -> Result<Xyb<Numbers<'c>>, Refusal>
+    ensures { MatchResult result (λ n. (numbers_judged (all_seen coefficients.entry) global_scale ≡ Ok tt) × (all_numbers n ≡ all_seen coefficients.entry)) (λ e. numbers_judged (all_seen coefficients.entry) global_scale ≡ Err e) }
 {
     require(is_scale(global_scale), Reason::Range)?;
-    check_range(w, h, 0, coefficients.x)?;
-    check_range(w, h, 1, coefficients.y)?;
-    check_range(w, h, 2, coefficients.b)
+    check_channels(coefficients)
 }
 
 fn is_qm_scale(scale: f32) -> bool
@@ -74,18 +64,14 @@ fn is_qm_scale(scale: f32) -> bool
 fn floats_are_in_range(by: Quantiser) -> bool
     ensures { result ≡ floats_ok by }
 {
-    is_qm_scale(by.qm_scale.x)
-        & is_qm_scale(by.qm_scale.y)
-        & is_qm_scale(by.qm_scale.b)
-        & by.quant_bias.x.is_finite()
-        & by.quant_bias.y.is_finite()
-        & by.quant_bias.b.is_finite()
+    by.qm_scale.all(is_qm_scale)
+        & by.quant_bias.all(|bias| bias.is_finite())
         & by.quant_bias_numerator.is_finite()
 }
 
 /// The row FLOAT.
-pub fn judge_floats(weights: Xyb<Weights>, by: Quantiser) -> Result<(), Refusal>
-    ensures { result ≡ floats_judged (tables weights.entry) by }
+pub fn judge_floats(weights: Xyb<ByKind>, by: Quantiser) -> Result<(), Refusal>
+    ensures { result ≡ floats_judged (all_by_kind weights.entry) by }
 {
     require(floats_are_in_range(by), Reason::Float)?;
     check_finite(0, weights.x.list)?;
@@ -93,21 +79,11 @@ pub fn judge_floats(weights: Xyb<Weights>, by: Quantiser) -> Result<(), Refusal>
     check_finite(2, weights.b.list)
 }
 
-/// The row WEIGHT, for a map of w × h cells.
-pub fn judge_weights(
-    w: usize,
-    h: usize,
-    map: View<Cell>,
-    weights: Xyb<Weights>,
-) -> Result<(), Refusal>
-    requires map { fitting w h (viewed map) ≡ true }
-    requires cells { LawfulMap w h (cells map.shape map.list.now) }
-    requires x { length weights.x.starts.now ≡ 27 }
-    requires y { length weights.y.starts.now ≡ 27 }
-    requires b { length weights.b.starts.now ≡ 27 }
-    ensures { result ≡ weights_judged w h (cells map.entry.shape map.entry.list.now) (tables weights.entry) }
+/// The row WEIGHT.
+pub fn judge_weights(map: Map, weights: Xyb<ByKind>) -> Result<(), Refusal>
+    ensures { result ≡ weights_judged map.entry.grid.shape.width map.entry.grid.shape.height (records map.entry) (all_by_kind weights.entry) }
 {
-    check_placed(w, h, map, 0, weights.x)?;
-    check_placed(w, h, map, 1, weights.y)?;
-    check_placed(w, h, map, 2, weights.b)
+    check_placed(map, 0, weights.x)?;
+    check_placed(map, 1, weights.y)?;
+    check_placed(map, 2, weights.b)
 }

@@ -4,6 +4,8 @@
 
 mod checks;
 mod dequantise;
+mod judge;
+mod quantiser;
 
-pub use checks::Quantiser;
 pub use dequantise::hf_dequantise;
+pub use quantiser::Quantiser;

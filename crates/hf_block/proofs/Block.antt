@@ -1,36 +1,51 @@
 -- One varblock's samples.
-use Rattle.std.proofs.Common.{◌≡◌, ℕ, ◌+◌, ◌*◌, ◌<◌, List, length, ℤ, Some, sym, ap, ◌∙◌, mul_assoc, mul_comm, mul_left_comm, arith}
-use lib.Ieee.{Float}
+use Rattle.std.proofs.Common.{◌≡◌, ℕ, ◌+◌, ◌-◌, ◌*◌, ◌<◌, ◌≤◌, List, length, get_or, take, drop, ℤ, sym, ap, ◌∙◌, mul_assoc, mul_comm, mul_left_comm, arith}
+use lib.Ieee.{Float, nan}
+use Rattle.std.proofs.lemmas.Bool.{and_parts, leb-true}
 use Rattle.std.proofs.lemmas.Nat.{mul-add-lt}
+use Rattle.std.proofs.lemmas.List.{get_or-take, get_or-drop, length-take-le, length-drop}
 use Rattle.grid.specs.declared.Shape.{Shape}
-use Rattle.grid.specs.Index.{Inside}
+use Rattle.grid.specs.declared.brush.Area.{Area}
+use Rattle.grid.specs.Index.{Lawful, Inside}
 use Rattle.grid.specs.Painted.{painted, patch}
-use Rattle.grid.specs.Plane.{Plane}
-use Rattle.kinds.specs.declared.Size.{Size}
-use Rattle.kinds.specs.Kinds.{size_of, wide, high}
+use Rattle.grid.specs.Plane.{Plane, numeral}
+use Rattle.kinds.specs.Kinds.{wide, high}
 use Rattle.kinds.proofs.Sizes.{wide_is, high_is}
-use Rattle.blocks.specs.declared.leads.Varblock.{Varblock}
+use Rattle.blocks.specs.declared.block.Block.{Block}
+use Rattle.blocks.specs.Areas.{area_of}
 use Rattle.blocks.specs.Blocks.{one_block}
-use Rattle.weights.specs.Weights.{Table, start, weight}
+use Rattle.blocks.proofs.Patches.{patch_alike}
+use Rattle.weights.specs.Weights.{Table, start, weight, weighs, weights_of}
 use Rattle.hf_block.specs.declared.work.Scales.{Scales}
-use Rattle.hf_block.specs.Sample.{multiplier}
+use Rattle.hf_block.specs.Sample.{dequantised, multiplier}
 use Rattle.hf_block.specs.Dequantised.{sample_at, dequantising, Ready}
 
-module _ (n : Plane ℤ) (t : Table) (by : Scales) (v : Varblock) (z : Size) (carried : size_of v.kind ≡ Some z) where
-  pub inside_block : Ready n t by v → (i j : ℕ) → i < 8 * z.width → j < 8 * z.height → Inside n.shape (8 * v.x + i) (8 * v.y + j)
-  inside_block r i j a b =
-      let w = wide_is v.kind z carried in
-      let h = high_is v.kind z carried in
-      record { across = omega (arith, r.across); down = omega (arith, r.down) }
+module _ (n : Plane ℤ) (t : Table) (by : Scales) (b : Block) (ready : Ready n t by b.varblock) where
+  pub inside_block : (i j : ℕ) → i < 8 * b.size.width → j < 8 * b.size.height → Inside n.shape (8 * b.varblock.x + i) (8 * b.varblock.y + j)
+  inside_block i j p q =
+      let w = wide_is b.varblock.kind b.size b.carried in
+      let h = high_is b.varblock.kind b.size b.carried in
+      record { across = omega (arith, ready.across); down = omega (arith, ready.down) }
 
-  pub weight_below : Ready n t by v → (i j : ℕ) → i < 8 * z.width → j < 8 * z.height
-      → start t v.kind + j * (8 * z.width) + i < length t.list
-  weight_below r i j a b =
-      let w = wide_is v.kind z carried in
-      let h = high_is v.kind z carried in
-      let p : (8 * z.height) * (8 * z.width) ≡ 64 * (wide v.kind * high v.kind) =
-      area z.height z.width ∙ ap (λ k. 64 * (k * z.height)) (sym w) ∙ ap (λ k. 64 * (wide v.kind * k)) (sym h) in
-      omega (arith, r.weights, mul-add-lt j (8 * z.width) i (8 * z.height) b a)
+  abbrev K : ℕ
+  K = start t b.varblock.kind
+
+  -- how many weights the kind has
+  abbrev M : ℕ
+  M = 64 * (wide b.varblock.kind * high b.varblock.kind)
+
+  -- they are there
+  enough : K + M ≤ length t.list
+  unfolding weighs
+  enough = leb-true _ _ (and_parts _ _ ready.weights).1
+
+  index_below : (i j : ℕ) → i < 8 * b.size.width → j < 8 * b.size.height → j * (8 * b.size.width) + i < M
+  index_below i j p q =
+      let w = wide_is b.varblock.kind b.size b.carried in
+      let h = high_is b.varblock.kind b.size b.carried in
+      let e : (8 * b.size.height) * (8 * b.size.width) ≡ M =
+      area b.size.height b.size.width ∙ ap (λ e. 64 * (e * b.size.height)) (sym w) ∙ ap (λ e. 64 * (wide b.varblock.kind * e)) (sym h) in
+      omega (arith, e, mul-add-lt j (8 * b.size.width) i (8 * b.size.height) q p)
     where
       area : (h w : ℕ) → (8 * h) * (8 * w) ≡ 64 * (w * h)
       area h w =
@@ -38,20 +53,44 @@ module _ (n : Plane ℤ) (t : Table) (by : Scales) (v : Varblock) (z : Size) (ca
           let b : 8 * (8 * (h * w)) ≡ 64 * (h * w) = omega arith in
           a ∙ b ∙ ap (λ k. 64 * k) (mul_comm h w)
 
-  -- what the brush leaves, for a block of w × h cells and a multiplier
-  abbrev brushed : Shape → List Float → Float → ℕ → ℕ → List Float
-  brushed s xs mul w h =
-      painted s
-      (patch (8 * v.x) (8 * v.y) (8 * w) (8 * h)
-      (sample_at n t.list (start t v.kind) (8 * v.x) (8 * v.y) (8 * w) by.quant_bias by.quant_bias_numerator mul))
-      xs
+  pub weight_below : (i j : ℕ) → i < 8 * b.size.width → j < 8 * b.size.height
+      → j * (8 * b.size.width) + i < length (weights_of t b.varblock.kind)
+  weight_below i j p q =
+      let d : K + M - K ≡ M = omega arith in
+      let long : length (weights_of t b.varblock.kind) ≡ M =
+      ap (λ e. length (take e (drop K t.list))) d ∙ length-take-le M (drop K t.list) (omega (arith, length-drop K t.list, enough)) in
+      omega (arith, long, index_below i j p q)
 
-  -- it is the block's image
-  pub block_done : (s : Shape) (mul : Float) (xs : List Float) → mul ≡ multiplier by.global_scale v.hf_mul by.qm_scale
-      → brushed s xs mul z.width z.height ≡ one_block s (dequantising n t by) v xs
-  unfolding one_block dequantising weight
-  block_done s mul xs e =
+  -- a weight of the block
+  weight_is : (i j : ℕ) → i < 8 * b.size.width → j < 8 * b.size.height
+      → get_or (weights_of t b.varblock.kind) (j * (8 * b.size.width) + i) nan ≡ weight t b.varblock.kind i j
+  unfolding weight
+  weight_is i j p q =
+      let w = wide_is b.varblock.kind b.size b.carried in
+      let e : K + (j * (8 * b.size.width) + i) ≡ K + j * (8 * wide b.varblock.kind) + i = omega (arith, ap (λ n. j * (8 * n)) w) in
+      get_or-take (K + M - K) (drop K t.list) (j * (8 * b.size.width) + i) nan (omega (arith, index_below i j p q))
+      ∙ get_or-drop K t.list (j * (8 * b.size.width) + i) nan
+      ∙ ap (λ k. get_or t.list k nan) e
+
+  -- what the brush leaves is the block's image
+  pub block_done : (s : Shape) (xs ws : List Float) (area : Area) (mul : Float) → Lawful s (length xs)
+      → ws ≡ weights_of t b.varblock.kind → area ≡ area_of b → mul ≡ multiplier by.global_scale b.varblock.hf_mul by.qm_scale
+      → painted s (patch area.x area.y area.width area.height (sample_at n ws area by mul)) xs ≡ one_block s (dequantising n t by) b.varblock xs
+  unfolding one_block dequantising
+  block_done s xs ws area mul l e f g =
+      let v = b.varblock in
       let exact = multiplier by.global_scale v.hf_mul by.qm_scale in
-      ap (λ m. brushed s xs m z.width z.height) e
-      ∙ ap (λ w. brushed s xs exact w z.height) (sym (wide_is v.kind z carried))
-      ∙ ap (λ h. brushed s xs exact (wide v.kind) h) (sym (high_is v.kind z carried))
+      let made : ℕ → ℕ → Float =
+      λ i j. dequantised by.quant_bias by.quant_bias_numerator (weight t v.kind i j) exact (numeral n (8 * v.x + i) (8 * v.y + j)) in
+      ap (λ (a : Area). painted s (patch a.x a.y a.width a.height (sample_at n ws a by mul)) xs) f
+      ∙ ap (λ ws. painted s (patch (8 * v.x) (8 * v.y) (8 * b.size.width) (8 * b.size.height) (sample_at n ws (area_of b) by mul)) xs) e
+      ∙ ap
+      (λ m. painted s (patch (8 * v.x) (8 * v.y) (8 * b.size.width) (8 * b.size.height) (sample_at n (weights_of t v.kind) (area_of b) by m)) xs) g
+      ∙ patch_alike s (8 * v.x) (8 * v.y) xs l (8 * b.size.width) (8 * b.size.height)
+      (λ i j. sample_at n (weights_of t v.kind) (area_of b) by exact i j nan) made
+      (λ i j p q.
+      ap (λ w. dequantised by.quant_bias by.quant_bias_numerator w exact (numeral n (8 * v.x + i) (8 * v.y + j))) (weight_is i j p q))
+      ∙ ap (λ w. painted s (patch (8 * v.x) (8 * v.y) (8 * w) (8 * b.size.height) (λ i j _. made i j)) xs)
+      (sym (wide_is v.kind b.size b.carried))
+      ∙ ap (λ h. painted s (patch (8 * v.x) (8 * v.y) (8 * wide v.kind) (8 * h) (λ i j _. made i j)) xs)
+      (sym (high_is v.kind b.size b.carried))

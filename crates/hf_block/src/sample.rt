@@ -1,6 +1,7 @@
 //! The arithmetic of one coefficient.
 
-ghost use Rattle.std.specs.Prelude.{◌≡◌, ◌≤◌, unsigned_abs};
+ghost use Rattle.std.specs.Prelude.{◌≡◌, ◌≤◌, true};
+ghost use Rattle.channels.specs.Ranges.{in_range};
 ghost use Rattle.hf_block.specs.Sample.{unbiased, multiplier as multiplier_of};
 
 /// What the coefficients of a varblock are multiplied by besides their weights.
@@ -14,7 +15,7 @@ pub fn multiplier(global_scale: u32, hf_mul: u32, qm_scale: f32) -> f32
 
 /// A coefficient before its weight: those of magnitude at most 1 go by the bias, all others by the numerator.
 pub fn unbias(coefficient: i32, bias: f32, numerator: f32) -> f32
-    requires { unsigned_abs coefficient ≤ 16777216 }
+    requires { in_range coefficient ≡ true }
     ensures { result ≡ unbiased bias numerator coefficient }
 {
     let q = coefficient as f32;

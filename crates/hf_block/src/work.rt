@@ -1,17 +1,16 @@
 //! What HF dequantise does to one varblock's samples.
 
-ghost use Rattle.std.specs.Prelude.{◌≡◌, ◌+◌, ◌*◌, ◌<◌, true, length};
-ghost use Rattle.grid.specs.Index.{Lawful, Inside};
-ghost use Rattle.grid.specs.Plane.{viewed};
-ghost use Rattle.channels.specs.Ranges.{in_range_at};
-ghost use Rattle.weights.specs.Weights.{table};
+ghost use Rattle.std.specs.Prelude.{◌+◌, ◌*◌, ◌<◌, length};
+ghost use Rattle.grid.specs.Index.{Inside};
+ghost use Rattle.grid.specs.Plane.{seen};
+ghost use Rattle.weights.specs.Kinds.{by_kind};
 ghost use Rattle.hf_block.specs.Dequantised.{sample_at, dequantising, Ready};
 
 use crate::sample::{multiplier, unbias};
-use blocks::{Varblock, Work};
-use grid::{Area, Brush, Shape, View, paint};
-use kinds::Size;
-use weights::Weights;
+use blocks::{Block, Work};
+use channels::Numbers;
+use grid::{Area, Brush, Canvas};
+use weights::ByKind;
 
 /// The numbers that go with a channel.
 #[derive(Clone, Copy)]
@@ -22,72 +21,56 @@ pub struct Scales {
     pub quant_bias_numerator: f32,
 }
 
-/// Makes the samples of a block whose first sample is (left, top), and whose weights lie from `start` on.
+/// Makes the samples of a block from its coefficients and its weights, which follow each other row by row.
 #[derive(Clone, Copy)]
-struct Block<'c, 'w> {
-    coefficients: View<'c, i32>,
+struct Samples<'c, 'w> {
+    coefficients: Numbers<'c>,
     weights: &'w [f32],
-    start: usize,
-    left: usize,
-    top: usize,
-    width: usize,
-    bias: f32,
-    numerator: f32,
+    area: Area,
+    scales: Scales,
     mul: f32,
 }
 
-impl<'c, 'w> Brush<f32> for Block<'c, 'w> {
-    ghost ready = { λ s i j. Lawful s.coefficients.shape (length s.coefficients.list.now) × Inside s.coefficients.shape (s.left + i) (s.top + j) × (in_range_at (viewed s.coefficients) (s.left + i) (s.top + j) ≡ true) × (s.start + j * s.width + i < length s.weights.now) };
+impl<'c, 'w> Brush<f32> for Samples<'c, 'w> {
+    ghost ready = { λ s i j. Inside s.coefficients.grid.shape (s.area.x + i) (s.area.y + j) × (j * s.area.width + i < length s.weights.now) };
 
-    ghost made = { λ s. sample_at (viewed s.coefficients) s.weights.now s.start s.left s.top s.width s.bias s.numerator s.mul };
+    ghost made = { λ s. sample_at (seen s.coefficients.grid) s.weights.now s.area s.scales s.mul };
 
     fn stroke(&self, i: usize, j: usize, _old: f32) -> f32 {
-        let coefficient = self.coefficients.get(self.left + i, self.top + j);
-        let weight = self.weights[self.start + j * self.width + i];
-        unbias(coefficient, self.bias, self.numerator) * weight * self.mul
+        let Scales {
+            quant_bias,
+            quant_bias_numerator,
+            ..
+        } = self.scales;
+        let coefficient = self.coefficients.get(self.area.x + i, self.area.y + j);
+        let weight = self.weights[j * self.area.width + i];
+        unbias(coefficient, quant_bias, quant_bias_numerator) * weight * self.mul
     }
 }
 
 /// HF dequantise in one channel.
 #[derive(Clone, Copy)]
 pub struct Dequantise<'c, 'w> {
-    pub coefficients: View<'c, i32>,
-    pub weights: Weights<'w>,
+    pub coefficients: Numbers<'c>,
+    pub weights: ByKind<'w>,
     pub scales: Scales,
 }
 
 impl<'c, 'w> Work for Dequantise<'c, 'w> {
-    ghost ready = { λ s room v. Ready (viewed s.coefficients) (table s.weights) s.scales v };
+    ghost ready = { λ s room v. Ready (seen s.coefficients.grid) (by_kind s.weights) s.scales v };
 
-    ghost made = { λ s. dequantising (viewed s.coefficients) (table s.weights) s.scales };
+    ghost made = { λ s. dequantising (seen s.coefficients.grid) (by_kind s.weights) s.scales };
 
-    fn work(
-        &self,
-        list: &mut [f32],
-        shape: Shape,
-        block: Varblock,
-        size: Size,
-        _scratch: &mut [f32],
-    ) {
-        let area = Area {
-            x: 8 * block.x,
-            y: 8 * block.y,
-            width: 8 * size.width,
-            height: 8 * size.height,
-        };
-        let starts = self.weights.starts;
+    fn work(&self, canvas: &mut Canvas<'_, f32>, block: Block, _scratch: &mut [f32]) {
         let scales = self.scales;
-        let brush = Block {
+        let area = block.area();
+        let brush = Samples {
             coefficients: self.coefficients,
-            weights: self.weights.list,
-            start: starts[block.kind as usize] as usize,
-            left: area.x,
-            top: area.y,
-            width: area.width,
-            bias: scales.quant_bias,
-            numerator: scales.quant_bias_numerator,
-            mul: multiplier(scales.global_scale, block.hf_mul, scales.qm_scale),
+            weights: self.weights.of_block(block).unwrap(),
+            area,
+            scales,
+            mul: multiplier(scales.global_scale, block.varblock.hf_mul, scales.qm_scale),
         };
-        paint(list, shape, area, &brush);
+        canvas.paint(area, &brush);
     }
 }

@@ -3,8 +3,9 @@ use Rattle.std.proofs.Common.{◌≡◌, ℕ, ◌*◌, ◌/◌, ◌<◌, true, �
 use lib.Ieee.{Float, binary32, add, mul, nan}
 use Rattle.grid.specs.Plane.{Plane, fitting, sample, numeral}
 use Rattle.grid.proofs.Laws.{painted_in}
+use Rattle.channels.specs.Correlated.{gain}
 use Rattle.channels.proofs.Fitting.{fits_lawful, fits_inside}
-use Rattle.hf_correlate.specs.Correlated.{gain, hf_correlated_at, hf_correlated}
+use Rattle.hf_correlate.specs.Correlated.{hf_correlated_at, hf_correlated}
 
 -- a channel after the call
 abbrev pub after : (luma : Plane Float) → (tiles : Plane ℤ) → Float → ℕ → Plane Float → Plane Float

@@ -1,4 +1,4 @@
 pub mod LeastTiles
 pub mod Tilewise
-pub mod Accepted
+mod Judging
 pub mod Footprint

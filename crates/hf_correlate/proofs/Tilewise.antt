@@ -9,10 +9,11 @@ use Rattle.grid.specs.declared.brush.Area.{Area}
 use Rattle.grid.specs.Index.{Inside, Lawful}
 use Rattle.grid.specs.Painted.{painted, patch}
 use Rattle.grid.specs.Plane.{Plane, sample, numeral}
-use Rattle.grid.proofs.Laws.{length_painted, painted_none, painted_alike, painted_twice}
+use Rattle.grid.proofs.Laws.{painted_none, painted_alike, painted_twice}
 use Rattle.refusal.specs.Verdicts.{before}
+use Rattle.channels.specs.Correlated.{gain, gained}
 use Rattle.hf_correlate.specs.Tiles.{span, tile_area}
-use Rattle.hf_correlate.specs.Correlated.{gain, hf_correlated_at, gained}
+use Rattle.hf_correlate.specs.Correlated.{hf_correlated_at}
 
 -- ---- tiles in one direction
 
@@ -162,12 +163,17 @@ module _ (s : Shape) (luma : Plane Float) (tiles : Plane ℤ) (base : Float) (co
             omega arith))
 
     -- the same, as the loop comes by it
-    pub tile_done : (X Y : ℕ) (k : Float) (a : Area) (ys zs : List Float) → a ≡ tile_area s X Y → k ≡ gain base colour (numeral tiles X Y)
-        → ys ≡ painted s (upto X Y) xs → zs ≡ painted s (patch a.x a.y a.width a.height (gained k luma a.x a.y)) ys
+    pub tile_done : (X Y : ℕ) (k : Float) (t : Shape) (a : Area) (ys zs : List Float) → t ≡ s → a ≡ tile_area t X Y
+        → k ≡ gain base colour (numeral tiles X Y) → ys ≡ painted s (upto X Y) xs
+        → zs ≡ painted t (patch a.x a.y a.width a.height (gained k luma a.x a.y)) ys
         → zs ≡ painted s (upto (X + 1) Y) xs
-    tile_done X Y k a ys zs area e before' painting =
+    tile_done X Y k t a ys zs same area e before' painting =
         painting
-        ∙ ap (λ (r : Area). painted s (patch r.x r.y r.width r.height (gained k luma r.x r.y)) ys) area
+        ∙ ap (λ (r : Area). painted t (patch r.x r.y r.width r.height (gained k luma r.x r.y)) ys) area
+        ∙ ap
+        (λ (u : Shape).
+        painted u (patch (64 * X) (64 * Y) (span u.width (64 * X)) (span u.height (64 * Y)) (gained k luma (64 * X) (64 * Y))) ys)
+        same
         ∙ ap (painted s (patch (64 * X) (64 * Y) (span s.width (64 * X)) (span s.height (64 * Y)) (gained k luma (64 * X) (64 * Y)))) before'
         ∙ upto_more X Y k e
 
@@ -177,8 +183,3 @@ area_across s X Y a e h = subst (λ (r : Area). r.x + r.width ≤ s.width) (sym 
 
 pub area_down : (s : Shape) (X Y : ℕ) (a : Area) → a ≡ tile_area s X Y → 64 * Y ≤ s.height → a.y + a.height ≤ s.height
 area_down s X Y a e h = subst (λ (r : Area). r.y + r.height ≤ s.height) (sym e) (span_within s.height (64 * Y) h)
-
--- a list that was painted is as long as before
-pub lawful_before : (s : Shape) (n : ℕ) (f : ℕ → ℕ → Float → Float) (xs ys : List Float) → Lawful s n → length ys ≡ n → ys ≡ painted s f xs
-    → Lawful s (length xs)
-lawful_before s n f xs ys l e p = subst (Lawful s) (sym e ∙ ap length p ∙ length_painted s f xs) l

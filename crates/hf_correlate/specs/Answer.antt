@@ -1,15 +1,16 @@
 -- What HF correlate answers: the rows of the table, in order.
-use Rattle.std.specs.Prelude.{ℕ, ◌*◌, Bool, ◌&&◌, ℤ, Ok, ◌==◌, nat_le, Float}
-use Rattle.std.specs.Float.{float_is_finite}
-use Rattle.grid.specs.declared.brush.Xyb.{Xyb}
+use Rattle.std.specs.Prelude.{ℕ, ◌*◌, Bool, ◌&&◌, ℤ, Ok, ◌==◌, Float}
+use Rattle.grid.specs.declared.xyb.Xyb.{Xyb}
 use Rattle.grid.specs.Plane.{Plane, fitting}
 use Rattle.refusal.specs.declared.Reason.TheVariants as reason
 use Rattle.refusal.specs.Verdicts.{Answer, demand, and_then}
 use Rattle.frame.specs.declared.stages.Stage.{Stage}
 use Rattle.frame.specs.Stages.{stage_number}
-use Rattle.channels.specs.Channels.{all_fit}
-use Rattle.channels.specs.Ranges.{range_checked}
-use Rattle.hf_correlate.specs.declared.correlate.Correlation.{Correlation}
+use Rattle.grid.specs.Channels.{all_fit}
+use Rattle.channels.specs.declared.correlation.Correlation.{Correlation}
+use Rattle.channels.specs.Ranges.{range_checked, colour_ok}
+use Rattle.channels.specs.Correlated.{bases_ok}
+use Rattle.channels.specs.Checked.{judged}
 use Rattle.hf_correlate.specs.Tiles.{tiles_of}
 
 -- TURN: after HF dequantise
@@ -20,13 +21,11 @@ hf_correlate_turn st = stage_number st == 4
 abbrev pub tiles_fit : ℕ → ℕ → Plane ℤ → Bool
 tiles_fit w8 h8 tiles = fitting (tiles_of (8 * w8)) (tiles_of (8 * h8)) tiles
 
--- RANGE
-abbrev pub colour_ok : ℕ → Bool
-colour_ok colour = nat_le 1 colour && nat_le colour 65793
-
--- FLOAT
-abbrev pub bases_ok : Correlation → Bool
-bases_ok by = float_is_finite by.base_correlation_x && float_is_finite by.base_correlation_b
+-- RANGE and FLOAT: the colour factor, the tiles, the bases
+abbrev pub numbers_judged : (x_tiles b_tiles : Plane ℤ) → Correlation → Answer
+numbers_judged x_tiles b_tiles by =
+    and_then (demand (colour_ok by.colour_factor) reason.Range)
+    (and_then (judged 0 x_tiles) (and_then (judged 2 b_tiles) (and_then (demand (bases_ok by) reason.Float) (Ok 0))))
 
 -- all rows, from whether the sample grids fit
 abbrev pub hf_correlate_judged : ℕ → ℕ → Stage → Bool → (x_tiles b_tiles : Plane ℤ) → Correlation → Answer

@@ -1,3 +1,4 @@
 pub mod Tiles
 pub mod Correlated
+pub mod Gains
 pub mod Answer

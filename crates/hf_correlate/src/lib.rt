@@ -6,4 +6,5 @@ mod correlate;
 mod gains;
 mod tiles;
 
-pub use correlate::{Correlation, hf_correlate};
+pub use channels::Correlation;
+pub use correlate::hf_correlate;

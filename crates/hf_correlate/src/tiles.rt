@@ -5,20 +5,16 @@ ghost use Rattle.hf_correlate.specs.Tiles.{LeastTiles, span as span_of, tiles_of
 
 use grid::{Area, Shape};
 
-/// How many tiles span a width or height of 8 to 1,024 samples.
+/// How many tiles span a width or height of n samples.
 fn tiles(n: usize) -> usize
-    requires small { 8 ≤ n }
-    requires large { n ≤ 1024 }
     ensures { LeastTiles n result }
 {
-    let whole = n / 64;
-    if n % 64 == 0 { whole } else { whole + 1 }
+    n.div_ceil(64)
 }
 
 /// How many tiles span a width or height of so many cells.
 pub fn tiles_over(cells: usize) -> usize
-    requires small { 1 ≤ cells }
-    requires large { cells ≤ 128 }
+    requires { cells ≤ 128 }
     ensures { result ≡ tiles_of (8 * cells) }
 {
     tiles(8 * cells)
@@ -29,7 +25,7 @@ fn span(n: usize, start: usize) -> usize
     requires { start ≤ n }
     ensures { result ≡ span_of n start }
 {
-    if n - start < 64 { n - start } else { 64 }
+    (n - start).min(64)
 }
 
 /// The samples of the tile (tx, ty).

@@ -5,6 +5,8 @@ use grid::{Grid, Shape, View, Xyb};
 use hf::{Quantiser, hf_dequantise};
 use refusal::Refusal;
 use std::num::f32_to_bits_with_nan;
+use std::test::Fail;
+use trials::{HostAnswer, alike, grids, opened, padded, told, views};
 use varmap::{Cell, Record};
 use weights::Weights;
 
@@ -33,10 +35,6 @@ struct Trial {
     spare: f32,
 }
 
-fn all(v: f32) -> Xyb<f32> {
-    Xyb { x: v, y: v, b: v }
-}
-
 fn good() -> Trial {
     Trial {
         stage: Stage::LfDequantised,
@@ -47,8 +45,8 @@ fn good() -> Trial {
         last: 0,
         by: Quantiser {
             global_scale: 65_536,
-            qm_scale: all(1.0),
-            quant_bias: all(0.5),
+            qm_scale: alike(1.0),
+            quant_bias: alike(0.5),
             quant_bias_numerator: 0.5,
         },
         start: 0,
@@ -58,243 +56,185 @@ fn good() -> Trial {
     }
 }
 
-/// The answer (0, or the number of the refusal's reason and its place), the stage after the call, and Y's first samples.
+/// The answer, the stage after the call, and Y's first samples.
 #[derive(Clone, Copy)]
 struct Outcome {
-    answer: (u32, usize, usize, usize),
+    answer: HostAnswer,
     stage: u32,
     samples: [f32; 4],
 }
 
-fn told(r: Result<u32, Refusal>) -> (u32, usize, usize, usize) {
-    match r {
-        Ok(n) => (n, 0, 0, 0),
-        Err(e) => (e.reason.number(), e.place.channel, e.place.x, e.place.y),
-    }
-}
-
-const UNIT: Shape = Shape {
-    width: 1,
-    height: 1,
-    stride: 1,
-};
-
-const BLOCK: Shape = Shape {
-    width: 8,
-    height: 8,
-    stride: 9,
-};
-
-fn put(list: &mut [i32; 72], first: [i32; 4], last: i32) {
-    let [c0, c1, c2, c3] = first;
-    list[0] = c0;
-    list[1] = c1;
-    list[2] = c2;
-    list[3] = c3;
+/// A channel's coefficients: the first four, and that at (3, 2).
+fn coefficients(first: [i32; 4], last: i32) -> [i32; 72] {
+    let mut list = [0; 72];
+    list[..4].copy_from_slice(&first);
     list[21] = last;
+    list
 }
 
-/// Calls with what the trial says, over Y's samples.
-fn given(
-    t: Trial,
-    frame: &mut Frame,
-    x: &mut Grid<f32>,
-    y: &mut Grid<f32>,
-    b: &mut Grid<f32>,
-) -> Result<u32, Refusal> {
-    let shape = y.shape;
+/// Calls with what the trial says, over these samples.
+fn given(t: Trial, frame: &mut Frame, samples: &mut Xyb<Grid<f32>>) -> Result<u32, Refusal> {
     let cells = [Cell {
         holds: Record::Lead {
             kind: 0,
             hf_mul: t.hf_mul,
         },
     }];
-    let (mut nx, mut ny, mut nb) = ([0i32; 72], [0i32; 72], [0i32; 72]);
-    put(&mut nx, t.coefficients, 0);
-    put(&mut ny, t.coefficients, 0);
-    put(&mut nb, t.coefficients, t.last);
-    let (wx, wy, mut wb) = ([t.weight; 64], [t.weight; 64], [t.weight; 65]);
-    wb[64] = t.spare;
-    let (zeros, mut starts) = ([0u32; 27], [0u32; 27]);
-    starts[0] = t.start;
-    let few = &wx[..t.weights.min(64)];
-    let some = &starts[..t.starts.min(27)];
     let map = View {
         list: &cells,
-        shape: UNIT,
+        shape: Shape::dense(1, 1),
     };
-    let coefficients = Xyb {
-        x: View { list: &nx, shape },
-        y: View { list: &ny, shape },
-        b: View { list: &nb, shape },
-    };
+    let (front, back) = (
+        coefficients(t.coefficients, 0),
+        coefficients(t.coefficients, t.last),
+    );
+    let numbers = views(&front, &front, &back, padded(8, 8, 1));
+    let (even, mut tail) = ([t.weight; 64], [t.weight; 65]);
+    tail[64] = t.spare;
+    let (zeros, mut starts) = ([0u32; 27], [0u32; 27]);
+    starts[0] = t.start;
     let weights = Xyb {
         x: Weights {
-            list: few,
+            list: &even[..t.weights.min(64)],
             starts: &zeros,
         },
         y: Weights {
-            list: &wy,
-            starts: some,
+            list: &even,
+            starts: &starts[..t.starts.min(27)],
         },
         b: Weights {
-            list: &wb,
+            list: &tail,
             starts: &zeros,
         },
     };
-    hf_dequantise(frame, map, x, y, b, coefficients, weights, t.by)
+    hf_dequantise(frame, map, samples, numbers, weights, t.by)
 }
 
-fn call(t: Trial) -> Outcome {
-    let mut cells = [Cell::EMPTY];
-    let map = &mut Grid {
-        list: &mut cells,
-        shape: UNIT,
-    };
-    let Ok(mut frame) = Frame::open(1, 1, map) else {
-        return Outcome {
-            answer: (99, 0, 0, 0),
-            stage: 99,
-            samples: [0.0; 4],
-        };
-    };
-    frame.lead_to(t.stage);
-    let wide = Shape {
-        width: t.width,
-        height: 8,
-        stride: 9,
-    };
-    let (mut x, mut y, mut b) = ([9.0f32; 72], [9.0f32; 72], [9.0f32; 72]);
-    let answer = given(
-        t,
-        &mut frame,
-        &mut Grid {
-            list: &mut x,
-            shape: wide,
-        },
-        &mut Grid {
-            list: &mut y,
-            shape: BLOCK,
-        },
-        &mut Grid {
-            list: &mut b,
-            shape: BLOCK,
-        },
-    );
-    Outcome {
+fn call(t: Trial) -> Result<Outcome, Refusal> {
+    let mut frame = opened(&mut [Cell::EMPTY], Shape::dense(1, 1), t.stage)?;
+    let (mut xs, mut ys, mut bs) = ([9.0f32; 72], [9.0f32; 72], [9.0f32; 72]);
+    let mut samples = grids(&mut xs, &mut ys, &mut bs, padded(8, 8, 1));
+    samples.x.shape.width = t.width;
+    let answer = given(t, &mut frame, &mut samples);
+    let [a, b, c, d, ..] = ys;
+    Ok(Outcome {
         answer: told(answer),
         stage: frame.stage().number(),
-        samples: [y[0], y[1], y[2], y[3]],
-    }
+        samples: [a, b, c, d],
+    })
 }
 
-const OK: (u32, usize, usize, usize) = (0, 0, 0, 0);
-
 #[test]
-fn worked(rt: HostRuntime) {
-    let o = call(good());
-    assert_eq!(rt; o.answer, OK);
+fn worked(rt: HostRuntime) -> Result<(), Fail> {
+    let o = call(good())?;
+    assert_eq!(rt; o.answer, Ok(0));
     assert_eq!(rt; o.stage, 4);
     let [a, b, c, d] = o.samples;
     assert_eq!(rt; f32_to_bits_with_nan(a), 0, "0");
     assert_eq!(rt; f32_to_bits_with_nan(b), 0x3f80_0000, "1");
     assert_eq!(rt; f32_to_bits_with_nan(c), 0x4060_0000, "3.5");
     assert_eq!(rt; f32_to_bits_with_nan(d), 0xc060_0000, "-3.5");
+    Ok(())
 }
 
 /// 65,795 × 255 is no f32: the product is rounded before it divides.
 #[test]
-fn inexact_product(rt: HostRuntime) {
+fn inexact_product(rt: HostRuntime) -> Result<(), Fail> {
     let mut t = good();
     t.by.global_scale = 65_795;
     t.hf_mul = 255;
     t.by.quant_bias_numerator = 0.0;
     t.weight = 1.0;
-    let [_, _, c, _] = call(t).samples;
+    let [_, _, c, _] = call(t)?.samples;
     assert_eq!(rt; f32_to_bits_with_nan(c), 0x3bff_fe04);
+    Ok(())
 }
 
 #[test]
-fn turn_and_shape(rt: HostRuntime) {
+fn turn_and_shape(rt: HostRuntime) -> Result<(), Fail> {
     let mut t = good();
     t.stage = Stage::Placing;
-    assert_eq!(rt; call(t).answer, (1, 0, 0, 0), "stage 0");
-    assert_eq!(rt; call(t).stage, 0, "stays");
+    assert_eq!(rt; call(t)?.answer, Err((1, 0, 0, 0)), "stage 0");
+    assert_eq!(rt; call(t)?.stage, 0, "stays");
     t.stage = Stage::LfSmoothed;
-    assert_eq!(rt; call(t).answer, OK, "stage 3");
+    assert_eq!(rt; call(t)?.answer, Ok(0), "stage 3");
     t.stage = Stage::HfDequantised;
-    assert_eq!(rt; call(t).answer, (1, 0, 0, 0), "stage 4");
+    assert_eq!(rt; call(t)?.answer, Err((1, 0, 0, 0)), "stage 4");
     t.stage = Stage::LfCorrelated;
     t.width = 7;
-    assert_eq!(rt; call(t).answer, (2, 0, 0, 0), "7 across");
+    assert_eq!(rt; call(t)?.answer, Err((2, 0, 0, 0)), "7 across");
     t.width = 9;
-    assert_eq!(rt; call(t).answer, (2, 0, 0, 0), "9 across");
+    assert_eq!(rt; call(t)?.answer, Err((2, 0, 0, 0)), "9 across");
     t.width = 8;
     t.starts = 26;
-    assert_eq!(rt; call(t).answer, (2, 0, 0, 0), "26 starts");
+    assert_eq!(rt; call(t)?.answer, Err((2, 0, 0, 0)), "26 starts");
     t.starts = 27;
-    assert_eq!(rt; call(t).answer, OK, "27 starts");
+    assert_eq!(rt; call(t)?.answer, Ok(0), "27 starts");
+    Ok(())
 }
 
 #[test]
-fn map_and_range(rt: HostRuntime) {
+fn map_and_range(rt: HostRuntime) -> Result<(), Fail> {
     let mut t = good();
     t.hf_mul = 0;
-    assert_eq!(rt; call(t).answer, (4, 0, 0, 0), "hf_mul 0");
+    assert_eq!(rt; call(t)?.answer, Err((4, 0, 0, 0)), "hf_mul 0");
     t.hf_mul = 256;
-    assert_eq!(rt; call(t).answer, (4, 0, 0, 0), "hf_mul 256");
+    assert_eq!(rt; call(t)?.answer, Err((4, 0, 0, 0)), "hf_mul 256");
     t.hf_mul = 255;
     t.by.global_scale = 0;
-    assert_eq!(rt; call(t).answer, (8, 0, 0, 0), "global_scale 0");
+    assert_eq!(rt; call(t)?.answer, Err((8, 0, 0, 0)), "global_scale 0");
     t.by.global_scale = 1;
-    assert_eq!(rt; call(t).answer, OK, "global_scale 1");
+    assert_eq!(rt; call(t)?.answer, Ok(0), "global_scale 1");
     t.by.global_scale = 73_729;
-    assert_eq!(rt; call(t).answer, (8, 0, 0, 0), "global_scale 73,729");
+    assert_eq!(rt; call(t)?.answer, Err((8, 0, 0, 0)), "global_scale 73,729");
     t.by.global_scale = 73_728;
     t.last = 16_777_216;
-    assert_eq!(rt; call(t).answer, OK, "16,777,216");
+    assert_eq!(rt; call(t)?.answer, Ok(0), "16,777,216");
     t.last = -16_777_216;
-    assert_eq!(rt; call(t).answer, OK, "-16,777,216");
+    assert_eq!(rt; call(t)?.answer, Ok(0), "-16,777,216");
     t.last = 16_777_217;
-    assert_eq!(rt; call(t).answer, (8, 2, 3, 2), "16,777,217");
+    assert_eq!(rt; call(t)?.answer, Err((8, 2, 3, 2)), "16,777,217");
     t.last = -16_777_217;
-    assert_eq!(rt; call(t).answer, (8, 2, 3, 2), "-16,777,217");
+    assert_eq!(rt; call(t)?.answer, Err((8, 2, 3, 2)), "-16,777,217");
     t.coefficients = [0, 0, 0, 16_777_217];
-    assert_eq!(rt; call(t).answer, (8, 0, 3, 0), "X first");
+    assert_eq!(rt; call(t)?.answer, Err((8, 0, 3, 0)), "X first");
+    Ok(())
 }
 
 #[test]
-fn floats(rt: HostRuntime) {
+fn floats(rt: HostRuntime) -> Result<(), Fail> {
     let mut t = good();
     t.by.qm_scale.b = 0.0;
-    assert_eq!(rt; call(t).answer, (9, 0, 0, 0), "qm 0");
+    assert_eq!(rt; call(t)?.answer, Err((9, 0, 0, 0)), "qm 0");
     t.by.qm_scale.b = 1.0e-45;
-    assert_eq!(rt; call(t).answer, OK, "qm least");
+    assert_eq!(rt; call(t)?.answer, Ok(0), "qm least");
     t.by.qm_scale.b = 16.000002;
-    assert_eq!(rt; call(t).answer, (9, 0, 0, 0), "qm above 16");
+    assert_eq!(rt; call(t)?.answer, Err((9, 0, 0, 0)), "qm above 16");
     t.by.qm_scale.b = 16.0;
-    assert_eq!(rt; call(t).answer, OK, "qm 16");
+    assert_eq!(rt; call(t)?.answer, Ok(0), "qm 16");
     t.by.quant_bias.y = f32::INFINITY;
-    assert_eq!(rt; call(t).answer, (9, 0, 0, 0), "bias");
+    assert_eq!(rt; call(t)?.answer, Err((9, 0, 0, 0)), "bias");
     t.by.quant_bias.y = f32::MAX;
     t.by.quant_bias_numerator = f32::NAN;
-    assert_eq!(rt; call(t).answer, (9, 0, 0, 0), "numerator");
+    assert_eq!(rt; call(t)?.answer, Err((9, 0, 0, 0)), "numerator");
     t.by.quant_bias_numerator = f32::MAX;
-    assert_eq!(rt; call(t).answer, OK, "greatest");
+    assert_eq!(rt; call(t)?.answer, Ok(0), "greatest");
     t.spare = f32::INFINITY;
-    assert_eq!(rt; call(t).answer, (9, 2, 64, 0), "a weight of no kind");
+    assert_eq!(rt; call(t)?.answer, Err((9, 2, 64, 0)), "a weight of no kind");
+    Ok(())
 }
 
 #[test]
-fn weights(rt: HostRuntime) {
+fn weights(rt: HostRuntime) -> Result<(), Fail> {
     let mut t = good();
     t.weights = 63;
-    assert_eq!(rt; call(t).answer, (10, 0, 0, 0), "63 weights");
+    assert_eq!(rt; call(t)?.answer, Err((10, 0, 0, 0)), "63 weights");
     t.weights = 64;
     t.start = 1;
-    assert_eq!(rt; call(t).answer, (10, 1, 0, 0), "past the end by one");
+    assert_eq!(rt; call(t)?.answer, Err((10, 1, 0, 0)), "past the end by one");
     t.start = 4_294_967_295;
-    assert_eq!(rt; call(t).answer, (10, 1, 0, 0), "none");
+    assert_eq!(rt; call(t)?.answer, Err((10, 1, 0, 0)), "none");
     t.start = 0;
-    assert_eq!(rt; call(t).answer, OK, "64 weights from 0 on");
+    assert_eq!(rt; call(t)?.answer, Ok(0), "64 weights from 0 on");
+    Ok(())
 }

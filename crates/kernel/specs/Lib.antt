@@ -1,3 +1,4 @@
 pub mod Maps
 pub mod Corner
 pub mod Flat
+pub mod Calls

@@ -48,49 +48,33 @@ mod tests {
         block[0] = 4.0;
         block[2] = 16.0;
         transform_hornuss(&mut block);
-        let mut good = true;
-        for i in 0..64usize {
-            let (x, y) = (i % 8, i / 8);
-            let expected = if i == 1 {
-                19.0
-            } else if (x < 4) & (y < 4) {
-                3.0
-            } else {
-                4.0
+        for (i, v) in block.iter().enumerate() {
+            let expected = match (i % 8, i / 8) {
+                (1, 0) => 19.0,
+                (0..4, 0..4) => 3.0,
+                _ => 4.0,
             };
-            good = good & (block[i] == expected);
+            assert!(rt; *v == expected, "at {i}");
         }
-        assert!(rt; good);
-    }
-
-    // The inverse with 512 numbers of scratch, and with one less.
-    fn inverse(kind: u32, list: &mut [f32]) {
-        let mut scratch = [0.0f32; 512];
-        Vardct.inverse(kind, list, CELL, &mut scratch);
-    }
-
-    fn inverse_short(kind: u32, list: &mut [f32]) {
-        let mut scratch = [0.0f32; 511];
-        Vardct.inverse(kind, list, CELL, &mut scratch);
     }
 
     #[test]
     fn only_blocks_of_the_kind(rt: HostRuntime) {
         let mut list = [0.0f32; 71];
         list[0] = 64.0;
-        inverse_short(0, &mut list);
+        Vardct.inverse(0, &mut list, CELL, &mut [0.0; 511]);
         assert!(rt; (list[0] == 64.0) & (list[1] == 0.0), "scratch of 511");
-        inverse(6, &mut list);
+        Vardct.inverse(6, &mut list, CELL, &mut [0.0; 512]);
         assert!(rt;
             (list[0] == 64.0) & (list[1] == 0.0),
             "a kind of another size"
         );
-        inverse(14, &mut list);
+        Vardct.inverse(14, &mut list, CELL, &mut [0.0; 512]);
         assert!(rt;
             (list[0] == 64.0) & (list[1] == 0.0),
             "a kind that is not carried"
         );
-        inverse(0, &mut list);
+        Vardct.inverse(0, &mut list, CELL, &mut [0.0; 512]);
         assert!(rt;
             (list[0] == 64.0) & (list[1] == 64.0) & (list[70] == 64.0),
             "a block"
@@ -102,39 +86,24 @@ mod tests {
     fn only_lists_that_are_long_enough(rt: HostRuntime) {
         let mut list = [0.0f32; 70];
         list[0] = 64.0;
-        inverse(0, &mut list);
+        Vardct.inverse(0, &mut list, CELL, &mut [0.0; 512]);
         assert!(rt; (list[0] == 64.0) & (list[1] == 0.0));
-    }
-
-    // The forward call over this width and two rows, with 512 numbers of scratch and with one less.
-    fn forward(width: usize, list: &mut [f32]) {
-        let mut scratch = [0.0f32; 512];
-        let shape = Shape {
-            width,
-            height: 2,
-            stride: 8,
-        };
-        Vardct.forward(list, shape, &mut scratch);
-    }
-
-    fn forward_short(width: usize, list: &mut [f32]) {
-        let mut scratch = [0.0f32; 511];
-        let shape = Shape {
-            width,
-            height: 2,
-            stride: 8,
-        };
-        Vardct.forward(list, shape, &mut scratch);
     }
 
     #[test]
     fn only_patches_of_the_sides(rt: HostRuntime) {
+        let wide = Shape {
+            width: 3,
+            height: 2,
+            stride: 8,
+        };
+        let shape = Shape { width: 2, ..wide };
         let mut list = [7.0f32; 16];
-        forward(3, &mut list);
+        Vardct.forward(&mut list, wide, &mut [0.0; 512]);
         assert!(rt; (list[0] == 7.0) & (list[1] == 7.0), "three across");
-        forward_short(2, &mut list);
+        Vardct.forward(&mut list, shape, &mut [0.0; 511]);
         assert!(rt; (list[0] == 7.0) & (list[1] == 7.0), "scratch of 511");
-        forward(2, &mut list);
+        Vardct.forward(&mut list, shape, &mut [0.0; 512]);
         assert!(rt;
             (list[0] == 7.0) & (list[1] == 0.0),
             "the first row of four sevens"
@@ -143,24 +112,13 @@ mod tests {
         assert!(rt; (list[2] == 7.0) & (list[10] == 7.0), "beyond the width");
     }
 
-    // The mean kernel's inverse, with 512 numbers of scratch and with one less.
-    fn mean(list: &mut [f32]) {
-        let mut scratch = [0.0f32; 512];
-        Mean.inverse(0, list, CELL, &mut scratch);
-    }
-
-    fn mean_short(list: &mut [f32]) {
-        let mut scratch = [0.0f32; 511];
-        Mean.inverse(0, list, CELL, &mut scratch);
-    }
-
     #[test]
     fn means(rt: HostRuntime) {
         let mut list = [3.0f32; 72];
         list[0] = 5.0;
-        mean_short(&mut list);
+        Mean.inverse(0, &mut list, CELL, &mut [0.0; 511]);
         assert!(rt; (list[0] == 5.0) & (list[1] == 3.0), "scratch of 511");
-        mean(&mut list);
+        Mean.inverse(0, &mut list, CELL, &mut [0.0; 512]);
         assert!(rt;
             (list[1] == 5.0) & (list[7] == 5.0) & (list[70] == 5.0),
             "64 fives"

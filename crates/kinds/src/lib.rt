@@ -13,6 +13,7 @@ pub struct Size {
 }
 
 /// The size of a varblock of this kind, if the kind is carried.
+// kinds are numbers, and a match over ranges with guards gives their sizes, by a rule of the project
 pub fn kind_size(kind: u32) -> Option<Size>
     ensures { result ≡ size_of kind }
 {

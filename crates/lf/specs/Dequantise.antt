@@ -2,14 +2,14 @@
 use Rattle.std.specs.Prelude.{ℕ, Bool, ◌&&◌, List, ℤ, Ok, Float}
 use Rattle.std.specs.Float.Ieee.{mul, of_int}
 use Rattle.std.specs.Float.{float_is_finite, binary32}
-use Rattle.grid.specs.declared.brush.Xyb.{Xyb}
+use Rattle.grid.specs.declared.xyb.Xyb.{Xyb}
 use Rattle.grid.specs.Painted.{painted}
 use Rattle.grid.specs.Plane.{Plane, numeral}
 use Rattle.refusal.specs.declared.Reason.TheVariants as reason
 use Rattle.refusal.specs.Verdicts.{Answer, demand, and_then}
 use Rattle.frame.specs.declared.stages.Stage.{Stage}
 use Rattle.frame.specs.Stages.{is_placing}
-use Rattle.channels.specs.Channels.{all_fit}
+use Rattle.grid.specs.Channels.{all_fit}
 use Rattle.channels.specs.Ranges.{range_checked}
 
 abbrev pub all_finite : Xyb Float → Bool

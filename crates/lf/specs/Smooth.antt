@@ -3,7 +3,7 @@ use Rattle.std.specs.Prelude.{◌≡◌, ℕ, ◌+◌, ◌-◌, ◌*◌, ◌^◌
 use Rattle.std.specs.Float.Ieee.{add, sub, mul, div, lt, of_bits, round}
 use Rattle.std.specs.Float.{float_is_finite, float_with_sign, float_max, binary32}
 use Rattle.grid.specs.declared.Shape.{Shape}
-use Rattle.grid.specs.declared.brush.Xyb.{Xyb}
+use Rattle.grid.specs.declared.xyb.Xyb.{Xyb}
 use Rattle.grid.specs.Index.{Lawful}
 use Rattle.grid.specs.Painted.{painted}
 use Rattle.grid.specs.Plane.{Plane, sample}
@@ -11,7 +11,7 @@ use Rattle.refusal.specs.declared.Reason.TheVariants as reason
 use Rattle.refusal.specs.Verdicts.{Answer, demand, and_then}
 use Rattle.frame.specs.declared.stages.Stage.{Stage}
 use Rattle.frame.specs.Stages.{stage_number}
-use Rattle.channels.specs.Channels.{all_fit}
+use Rattle.grid.specs.Channels.{all_fit}
 
 -- ---- what is answered
 
@@ -111,12 +111,21 @@ lf_smoothed w8 h8 lf steps p = painted p.shape (within_border w8 h8 (smoothed lf
 
 -- ---- on the way, in scratch
 
--- a grid of w × h with no gap between its rows, over the list xs
-abbrev pub dense : ℕ → ℕ → Shape
-dense w h = record { width = w; height = h; stride = w }
+-- grids of one size
+pub record SameSize (s t : Shape) : Type 0 where
+  pub width : s.width ≡ t.width
+  pub height : s.height ≡ t.height
 
-abbrev pub dense_plane : ℕ → ℕ → List Float → Plane Float
-dense_plane w h xs = record { shape = dense w h; list = xs }
+-- p is lawful, and as large as s
+pub record Fits (p : Plane Float) (s : Shape) : Type 0 where
+  pub lawful : Lawful p.shape (length p.list)
+  pub width : p.shape.width ≡ s.width
+  pub height : p.shape.height ≡ s.height
+
+pub record AllFit (p : Xyb (Plane Float)) (s : Shape) : Type 0 where
+  pub x : Fits p.x s
+  pub y : Fits p.y s
+  pub b : Fits p.b s
 
 -- p has f at each place within the border
 unfoldable pub Holds : ℕ → ℕ → Plane Float → (ℕ → ℕ → Float) → Type 0
@@ -130,10 +139,9 @@ shared steps x y b i j = share_of steps (sample x i j) (sample y i j) (change b 
 abbrev pub moved : (changes shares : Plane Float) → ℕ → ℕ → Float → Float
 moved changes shares x y old = add binary32 (mul binary32 (sample changes x y) (sample shares x y)) old
 
--- (x, y) lies in the lawful grid p, with a columns on either side and b rows above and below
-pub record Around (p : Plane Float) (a b x y : ℕ) : Type 0 where
-  pub lawful : Lawful p.shape (length p.list)
+-- (x, y) lies in a grid of the shape, with a columns on either side and b rows above and below
+pub record Around (s : Shape) (a b x y : ℕ) : Type 0 where
   pub left : a ≤ x
-  pub right : x + a < p.shape.width
+  pub right : x + a < s.width
   pub top : b ≤ y
-  pub bottom : y + b < p.shape.height
+  pub bottom : y + b < s.height

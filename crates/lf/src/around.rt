@@ -1,10 +1,11 @@
 //! The average around a cell.
 
 ghost use Rattle.std.specs.Prelude.{◌≡◌};
-ghost use Rattle.grid.specs.Plane.{viewed, sample};
+ghost use Rattle.grid.specs.Index.{Inside};
+ghost use Rattle.grid.specs.Plane.{seen, sample};
 ghost use Rattle.lf.specs.Smooth.{Around, up_down, average, change};
 
-use grid::View;
+use grid::Raster;
 
 const SCALE_SELF: f32 = 0.052262735;
 
@@ -12,25 +13,25 @@ const SCALE_SIDE: f32 = 0.2034514;
 
 const SCALE_DIAG: f32 = 0.03348292;
 
-pub fn sample_at(samples: View<f32>, x: usize, y: usize) -> f32
-    requires { Around (viewed samples) 0 0 x y }
-    ensures { result ≡ sample (viewed samples.entry) x y }
+pub fn sample_at(samples: Raster<f32>, x: usize, y: usize) -> f32
+    requires { Inside samples.shape x y }
+    ensures { result ≡ sample (seen samples.entry) x y }
 {
     samples.get(x, y)
 }
 
 /// The sum of the samples above and below (x, y).
-fn up_down(samples: View<f32>, x: usize, y: usize) -> f32
-    requires { Around (viewed samples) 0 1 x y }
-    ensures { result ≡ up_down (viewed samples.entry) x y }
+fn up_down(samples: Raster<f32>, x: usize, y: usize) -> f32
+    requires { Around samples.shape 0 1 x y }
+    ensures { result ≡ up_down (seen samples.entry) x y }
 {
     sample_at(samples, x, y - 1) + sample_at(samples, x, y + 1)
 }
 
 /// The weighted average of the sample (x, y) and the eight around it.
-fn average(samples: View<f32>, x: usize, y: usize) -> f32
-    requires { Around (viewed samples) 1 1 x y }
-    ensures { result ≡ average (viewed samples.entry) x y }
+fn average(samples: Raster<f32>, x: usize, y: usize) -> f32
+    requires { Around samples.shape 1 1 x y }
+    ensures { result ≡ average (seen samples.entry) x y }
 {
     let own = sample_at(samples, x, y);
     let side = sample_at(samples, x - 1, y) + sample_at(samples, x + 1, y) + up_down(samples, x, y);
@@ -39,9 +40,9 @@ fn average(samples: View<f32>, x: usize, y: usize) -> f32
 }
 
 /// From the sample (x, y) to the average around it.
-pub fn change(samples: View<f32>, x: usize, y: usize) -> f32
-    requires { Around (viewed samples) 1 1 x y }
-    ensures { result ≡ change (viewed samples.entry) x y }
+pub fn change(samples: Raster<f32>, x: usize, y: usize) -> f32
+    requires { Around samples.shape 1 1 x y }
+    ensures { result ≡ change (seen samples.entry) x y }
 {
     average(samples, x, y) - sample_at(samples, x, y)
 }

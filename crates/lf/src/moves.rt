@@ -1,141 +1,108 @@
 //! What LF smooth lays out in scratch, and a channel that moves by it.
 
 ghost use Rattle.std.specs.Float.{float_max};
-ghost use Rattle.std.specs.Prelude.{◌≡◌, ℕ, ◌+◌, ◌-◌, ◌*◌, ◌^◌, ◌<◌, ◌≤◌, true, length, Float};
+ghost use Rattle.std.specs.Prelude.{◌≡◌, ◌+◌, ◌-◌, ◌^◌, ◌<◌, length, Float};
+ghost use Rattle.grid.specs.Index.{Inside, Lawful};
 ghost use Rattle.grid.specs.Became.{Became};
-ghost use Rattle.grid.specs.Plane.{Plane, lent, viewed, fitting};
-ghost use Rattle.channels.specs.Channels.{planes};
-ghost use Rattle.lf.specs.Smooth.{change as change_of, gap as gap_of, share as share_of, shared, moved, dense as dense_of, dense_plane, Holds, Around, lf_smoothed};
+ghost use Rattle.grid.specs.Plane.{Plane, lent, laid, seen};
+ghost use Rattle.grid.specs.Channels.{planes, all_lent};
+ghost use Rattle.lf.specs.Smooth.{change as change_of, gap as gap_of, share as share_of, shared, moved, Holds, SameSize, Fits, AllFit, Around, lf_smoothed};
 
 use crate::around::{change, sample_at};
-use grid::{Area, Brush, Grid, Shape, View, Xyb, paint};
+use grid::{Area, Brush, Canvas, Grid, Raster, Shape, Xyb};
+
+/// A lawful grid, for reading alone.
+pub fn raster<'a>(grid: &'a Grid<'_, f32>) -> Raster<'a, f32>
+    requires { Lawful grid.now.shape (length grid.now.list.now) }
+    ensures list { result.list.now ≡ grid.now.list.now }
+    ensures shape { result.shape ≡ grid.now.shape }
+{
+    Raster {
+        list: grid.list,
+        shape: grid.shape,
+    }
+}
+
+/// Scratch in three parts: the changes of X and later of B, those of Y, and how much of its changes each cell makes.
+#[derive(Drop)]
+pub struct Parts<'a> {
+    pub changes: Canvas<'a, f32>,
+    pub y_changes: Canvas<'a, f32>,
+    pub shares: Canvas<'a, f32>,
+    ghost alike: { (changes.shape ≡ shares.shape) × (y_changes.shape ≡ shares.shape) },
+}
 
 /// The changes of X and of Y, and how much of its changes each cell makes.
-pub fn look_around(
-    w: usize,
-    h: usize,
-    x: &Grid<f32>,
-    y: &Grid<f32>,
-    b: &Grid<f32>,
-    steps: Xyb<f32>,
-    changes_x: &mut [f32],
-    changes_y: &mut [f32],
-    shares: &mut [f32],
-)
-    requires fits_x { fitting w h (lent x.now) ≡ true }
-    requires fits_y { fitting w h (lent y.now) ≡ true }
-    requires fits_b { fitting w h (lent b.now) ≡ true }
-    requires room_x { w * h ≤ length changes_x.old }
-    requires room_y { w * h ≤ length changes_y.old }
-    requires room { w * h ≤ length shares.old }
-    ensures x { Holds w h (dense_plane w h changes_x.new) (change_of (lent x.now)) }
-    ensures y { Holds w h (dense_plane w h changes_y.new) (change_of (lent y.now)) }
-    ensures share { Holds w h (dense_plane w h shares.new) (share_of (planes (lent x.now) (lent y.now) (lent b.now)) steps) }
+pub fn look_around(lf: &Xyb<Grid<f32>>, steps: Xyb<f32>, parts: &mut Parts)
+    requires { AllFit (all_lent lf.now) parts.old.shares.shape }
+    ensures shape { parts.new.shares.shape ≡ parts.old.shares.shape }
+    ensures x { Holds parts.old.shares.shape.width parts.old.shares.shape.height (laid parts.new.changes) (change_of (lent lf.now.x)) }
+    ensures y { Holds parts.old.shares.shape.width parts.old.shares.shape.height (laid parts.new.y_changes) (change_of (lent lf.now.y)) }
+    ensures share { Holds parts.old.shares.shape.width parts.old.shares.shape.height (laid parts.new.shares) (share_of (all_lent lf.now) steps) }
 {
-    write_changes(w, h, x, changes_x);
-    write_changes(w, h, y, changes_y);
-    write_shares(w, h, changes_x, changes_y, b, steps, shares);
+    write_changes(raster(&lf.x), &mut parts.changes);
+    write_changes(raster(&lf.y), &mut parts.y_changes);
+    let share = Share {
+        x: parts.changes.raster(),
+        y: parts.y_changes.raster(),
+        b: raster(&lf.b),
+        steps,
+    };
+    write_shares(&share, &mut parts.shares);
 }
 
 /// All but the border.
-fn inner(w: usize, h: usize) -> Area
-    ensures { result ≡ record { x = 1; y = 1; width = w - 2; height = h - 2 } }
+fn inner(shape: Shape) -> Area
+    ensures { result ≡ record { x = 1; y = 1; width = shape.width - 2; height = shape.height - 2 } }
 {
     Area {
         x: 1,
         y: 1,
-        width: w.saturating_sub(2),
-        height: h.saturating_sub(2),
-    }
-}
-
-/// A part of scratch, as a grid.
-fn dense(w: usize, h: usize) -> Shape
-    ensures { result ≡ dense_of w h }
-{
-    Shape {
-        width: w,
-        height: h,
-        stride: w,
+        width: shape.width.saturating_sub(2),
+        height: shape.height.saturating_sub(2),
     }
 }
 
 /// The changes of a channel, into `changes`.
-pub fn write_changes(w: usize, h: usize, samples: &Grid<f32>, changes: &mut [f32])
-    requires fits { fitting w h (lent samples.now) ≡ true }
-    requires room { w * h ≤ length changes.old }
-    ensures { Holds w h (dense_plane w h changes.new) (change_of (lent samples.now)) }
+pub fn write_changes(samples: Raster<f32>, changes: &mut Canvas<f32>)
+    requires { SameSize samples.shape changes.old.shape }
+    ensures shape { changes.new.shape ≡ changes.old.shape }
+    ensures holds { Holds changes.old.shape.width changes.old.shape.height (laid changes.new) (change_of (seen samples.entry)) }
 {
-    let brush = Change {
-        samples: samples.view(),
-    };
-    paint(changes, dense(w, h), inner(w, h), &brush);
+    changes.paint(inner(changes.shape), &Change { samples });
 }
 
-/// How much of its change each cell makes, from the changes of X and Y and the samples of B, into `shares`.
-fn write_shares(
-    w: usize,
-    h: usize,
-    changes_x: &[f32],
-    changes_y: &[f32],
-    b: &Grid<f32>,
-    steps: Xyb<f32>,
-    shares: &mut [f32],
-)
-    requires fits { fitting w h (lent b.now) ≡ true }
-    requires long_x { w * h ≤ length changes_x.now }
-    requires long_y { w * h ≤ length changes_y.now }
-    requires room { w * h ≤ length shares.old }
-    ensures { (x y : Plane Float) → Holds w h (dense_plane w h changes_x.now) (change_of x) → Holds w h (dense_plane w h changes_y.now) (change_of y) → Holds w h (dense_plane w h shares.new) (share_of (planes x y (lent b.now)) steps) }
+/// How much of its change each cell makes, into `shares`.
+fn write_shares(share: &Share, shares: &mut Canvas<f32>)
+    requires x { SameSize share.now.x.shape shares.old.shape }
+    requires y { SameSize share.now.y.shape shares.old.shape }
+    requires b { SameSize share.now.b.shape shares.old.shape }
+    ensures shape { shares.new.shape ≡ shares.old.shape }
+    ensures holds { (x y : Plane Float) → Holds shares.old.shape.width shares.old.shape.height (seen share.now.x) (change_of x) → Holds shares.old.shape.width shares.old.shape.height (seen share.now.y) (change_of y) → Holds shares.old.shape.width shares.old.shape.height (laid shares.new) (share_of (planes x y (seen share.now.b)) share.now.steps) }
 {
-    let dense = dense(w, h);
-    let brush = Share {
-        x: View {
-            list: changes_x,
-            shape: dense,
-        },
-        y: View {
-            list: changes_y,
-            shape: dense,
-        },
-        b: b.view(),
-        steps,
-    };
-    paint(shares, dense, inner(w, h), &brush);
+    shares.paint(inner(shares.shape), share);
 }
 
 /// A channel moves by its changes, as much of them as `shares` says.
-pub fn move_channel(w: usize, h: usize, samples: &mut Grid<f32>, changes: &[f32], shares: &[f32])
-    requires fits { fitting w h (lent samples.old) ≡ true }
-    requires long_changes { w * h ≤ length changes.now }
-    requires long_shares { w * h ≤ length shares.now }
-    ensures fits { fitting w h (lent samples.new) ≡ true }
-    ensures smoothed { (lf : Xyb (Plane Float)) (steps : Xyb Float) → Holds w h (dense_plane w h changes.now) (change_of (lent samples.old)) → Holds w h (dense_plane w h shares.now) (share_of lf steps) → Became samples.old samples.new (lf_smoothed w h lf steps (lent samples.old)) }
+pub fn move_channel(samples: &mut Grid<f32>, changes: Raster<f32>, shares: Raster<f32>)
+    requires fits { Fits (lent samples.old) changes.shape }
+    requires shares { SameSize shares.shape changes.shape }
+    ensures fits { Fits (lent samples.new) changes.entry.shape }
+    ensures smoothed { (lf : Xyb (Plane Float)) (steps : Xyb Float) → Holds changes.entry.shape.width changes.entry.shape.height (seen changes.entry) (change_of (lent samples.old)) → Holds changes.entry.shape.width changes.entry.shape.height (seen shares.entry) (share_of lf steps) → Became samples.old samples.new (lf_smoothed changes.entry.shape.width changes.entry.shape.height lf steps (lent samples.old)) }
 {
-    let dense = dense(w, h);
-    let brush = Moved {
-        changes: View {
-            list: changes,
-            shape: dense,
-        },
-        shares: View {
-            list: shares,
-            shape: dense,
-        },
-    };
-    samples.paint(inner(w, h), &brush);
+    samples.paint(inner(changes.shape), &Moved { changes, shares });
 }
 
 /// The change of a cell: the area begins at (1, 1), so it is the cell (i + 1, j + 1).
 #[derive(Clone, Copy)]
 struct Change<'a> {
-    samples: View<'a, f32>,
+    samples: Raster<'a, f32>,
 }
 
 impl<'a> Brush<f32> for Change<'a> {
-    ghost ready = { λ s i j. Around (viewed s.samples) 1 1 (i + 1) (j + 1) × (j + 1 < 2 ^ 64) };
+    ghost ready = { λ s i j. Around s.samples.shape 1 1 (i + 1) (j + 1) × (j + 1 < 2 ^ 64) };
 
-    ghost made = { λ s i j old. change_of (viewed s.samples) (i + 1) (j + 1) };
+    ghost made = { λ s i j old. change_of (seen s.samples) (i + 1) (j + 1) };
 
     fn stroke(&self, i: usize, j: usize, _old: f32) -> f32 {
         change(self.samples, i + 1, j + 1)
@@ -145,16 +112,16 @@ impl<'a> Brush<f32> for Change<'a> {
 /// How much of its change a cell makes, from the changes of X and Y and the samples of B.
 #[derive(Clone, Copy)]
 struct Share<'x, 'y, 'b> {
-    x: View<'x, f32>,
-    y: View<'y, f32>,
-    b: View<'b, f32>,
+    x: Raster<'x, f32>,
+    y: Raster<'y, f32>,
+    b: Raster<'b, f32>,
     steps: Xyb<f32>,
 }
 
 impl<'x, 'y, 'b> Brush<f32> for Share<'x, 'y, 'b> {
-    ghost ready = { λ s i j. Around (viewed s.x) 0 0 (i + 1) (j + 1) × Around (viewed s.y) 0 0 (i + 1) (j + 1) × Around (viewed s.b) 1 1 (i + 1) (j + 1) × (j + 1 < 2 ^ 64) };
+    ghost ready = { λ s i j. Inside s.x.shape (i + 1) (j + 1) × Inside s.y.shape (i + 1) (j + 1) × Around s.b.shape 1 1 (i + 1) (j + 1) × (j + 1 < 2 ^ 64) };
 
-    ghost made = { λ s i j old. shared s.steps (viewed s.x) (viewed s.y) (viewed s.b) (i + 1) (j + 1) };
+    ghost made = { λ s i j old. shared s.steps (seen s.x) (seen s.y) (seen s.b) (i + 1) (j + 1) };
 
     fn stroke(&self, i: usize, j: usize, _old: f32) -> f32 {
         let (x, y) = (i + 1, j + 1);
@@ -183,14 +150,14 @@ fn gap(step: f32, change: f32) -> f32
 /// Adds a part of the change.
 #[derive(Clone, Copy)]
 struct Moved<'c, 's> {
-    changes: View<'c, f32>,
-    shares: View<'s, f32>,
+    changes: Raster<'c, f32>,
+    shares: Raster<'s, f32>,
 }
 
 impl<'c, 's> Brush<f32> for Moved<'c, 's> {
-    ghost ready = { λ s i j. Around (viewed s.changes) 0 0 (i + 1) (j + 1) × Around (viewed s.shares) 0 0 (i + 1) (j + 1) × (j + 1 < 2 ^ 64) };
+    ghost ready = { λ s i j. Inside s.changes.shape (i + 1) (j + 1) × Inside s.shares.shape (i + 1) (j + 1) × (j + 1 < 2 ^ 64) };
 
-    ghost made = { λ s i j. moved (viewed s.changes) (viewed s.shares) (i + 1) (j + 1) };
+    ghost made = { λ s i j. moved (seen s.changes) (seen s.shares) (i + 1) (j + 1) };
 
     fn stroke(&self, i: usize, j: usize, old: f32) -> f32 {
         let (x, y) = (i + 1, j + 1);

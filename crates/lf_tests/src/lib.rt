@@ -5,10 +5,11 @@
 #[cfg(test)]
 mod tests {
     use frame::{Frame, Stage};
-    use grid::{Grid, Shape, View, Xyb};
+    use grid::{Shape, Xyb};
     use lf::{Correlation, lf_correlate, lf_dequantise, lf_smooth};
     use refusal::Refusal;
     use std::test::Fail;
+    use trials::{HostAnswer, grids, opened, told, views};
     use varmap::Cell;
 
     // 3 × 3 cells, with one number beyond the width of each row.
@@ -18,35 +19,21 @@ mod tests {
         stride: 4,
     };
 
-    // A frame of 3 × 3 cells in a stage.
-    fn framed(stage: Stage) -> Result<Frame, Fail> {
-        let mut list = [Cell::EMPTY; 12];
-        let map = &mut Grid {
-            list: &mut list,
-            shape: SHAPE,
-        };
-        let Ok(mut frame) = Frame::open(3, 3, map) else {
-            return Err(Fail::new("open is refused"));
-        };
-        frame.lead_to(stage);
-        Ok(frame)
+    // The frame's stage after a call, and the answer.
+    type Seen = (u32, HostAnswer);
+
+    fn seen(frame: &Frame, answer: Result<u32, Refusal>) -> Seen {
+        (frame.stage().number(), told(answer))
     }
 
-    // The frame's stage after a call, 0 or the reason's number, and the place.
-    fn told(frame: Frame, answer: Result<u32, Refusal>) -> [usize; 5] {
-        let stage = frame.stage().number() as usize;
-        match answer {
-            Ok(n) => [stage, n as usize, 0, 0, 0],
-            Err(Refusal { reason, place }) => {
-                [
-                    stage,
-                    reason.number() as usize,
-                    place.channel,
-                    place.x,
-                    place.y,
-                ]
-            }
-        }
+    // A refusal in this stage that names no place.
+    fn refused(stage: u32, reason: u32) -> Seen {
+        (stage, Err((reason, 0, 0, 0)))
+    }
+
+    // A frame of 3 × 3 cells in a stage.
+    fn framed(stage: Stage) -> Result<Frame, Refusal> {
+        opened(&mut [Cell::EMPTY; 12], SHAPE, stage)
     }
 
     // LF dequantise, with the first twelve numbers for X and Y, and the others for B in a grid so wide.
@@ -56,57 +43,38 @@ mod tests {
         width: usize,
         scale: f32,
         b: &mut [f32],
-    ) -> Result<[usize; 5], Fail> {
+    ) -> Result<Seen, Refusal> {
         let mut frame = framed(stage)?;
-        let (mut x, mut y) = ([7.0f32; 12], [7.0f32; 12]);
-        let front = View {
-            list: &numbers[..12],
-            shape: SHAPE,
-        };
-        let back = View {
-            list: &numbers[12..],
-            shape: Shape { width, ..SHAPE },
-        };
-        let given = Xyb {
-            x: front,
-            y: front,
-            b: back,
-        };
+        let (front, back) = numbers.split_at(12);
+        let mut given = views(front, front, back, SHAPE);
+        given.b.shape.width = width;
         let scales = Xyb {
             x: 0.5f32,
             y: 1.0,
             b: scale,
         };
-        let mut gx = Grid {
-            list: &mut x,
-            shape: SHAPE,
-        };
-        let mut gy = Grid {
-            list: &mut y,
-            shape: SHAPE,
-        };
-        let mut gb = Grid {
-            list: b,
-            shape: SHAPE,
-        };
-        let answer = lf_dequantise(&mut frame, &mut gx, &mut gy, &mut gb, given, scales);
-        Ok(told(frame, answer))
+        let (mut xs, mut ys) = ([7.0f32; 12], [7.0f32; 12]);
+        let mut lf = grids(&mut xs, &mut ys, b, SHAPE);
+        let answer = lf_dequantise(&mut frame, &mut lf, given, scales);
+        Ok(seen(&frame, answer))
     }
 
     #[test]
     fn dequantise(rt: HostRuntime) -> Result<(), Fail> {
-        let infinity = 1.0 / 0.0;
         let mut b = [7.0f32; 12];
         let mut numbers = [3i32; 24];
-        let again = dequantised(Stage::LfDequantised, &numbers, 3, 0.25, &mut b)?;
-        assert_eq!(rt; again, [1, 1, 0, 0, 0], "TURN");
-        let narrow = dequantised(Stage::Placing, &numbers, 2, infinity, &mut b)?;
-        assert_eq!(rt; narrow, [0, 2, 0, 0, 0], "SHAPE");
-        let endless = dequantised(Stage::Placing, &numbers, 3, infinity, &mut b)?;
-        assert_eq!(rt; endless, [0, 9, 0, 0, 0], "FLOAT");
+        let endless = f32::INFINITY;
+        for (stage, width, scale, expected, what) in [
+            (Stage::LfDequantised, 3, 0.25, refused(1, 1), "TURN"),
+            (Stage::Placing, 2, endless, refused(0, 2), "SHAPE"),
+            (Stage::Placing, 3, endless, refused(0, 9), "FLOAT"),
+        ] {
+            let found = dequantised(stage, &numbers, width, scale, &mut b)?;
+            assert_eq!(rt; found, expected, "{what}");
+        }
         assert!(rt; b[6] == 7.0, "nothing is written yet");
         let good = dequantised(Stage::Placing, &numbers, 3, 0.25, &mut b)?;
-        assert_eq!(rt; good, [1, 0, 0, 0, 0], "accepted");
+        assert_eq!(rt; good, (1, Ok(0)), "accepted");
         assert!(rt;
             (b[6] == 0.75) & (b[7] == 7.0),
             "3 by 0.25, and beyond the width"
@@ -114,12 +82,12 @@ mod tests {
         numbers[19] = 16_777_217;
         numbers[18] = -16_777_216;
         let limit = dequantised(Stage::Placing, &numbers, 3, 1.0, &mut b)?;
-        assert_eq!(rt; limit, [1, 0, 0, 0, 0], "the limit");
+        assert_eq!(rt; limit, (1, Ok(0)), "the limit");
         assert!(rt; b[6] == -16_777_216.0);
         numbers[18] = 16_777_217;
         numbers[21] = -16_777_217;
-        let beyond = dequantised(Stage::Placing, &numbers, 3, infinity, &mut b)?;
-        assert_eq!(rt; beyond, [0, 8, 2, 2, 1], "RANGE");
+        let beyond = dequantised(Stage::Placing, &numbers, 3, endless, &mut b)?;
+        assert_eq!(rt; beyond, (0, Err((8, 2, 2, 1))), "RANGE");
         Ok(())
     }
 
@@ -129,24 +97,17 @@ mod tests {
         width: usize,
         by: Correlation,
         x: &mut [f32],
-    ) -> Result<[usize; 5], Fail> {
+    ) -> Result<Seen, Refusal> {
         let mut frame = framed(stage)?;
-        let y = [2.0f32; 12];
-        let mut b = [1.0f32; 12];
-        let mut gx = Grid {
-            list: x,
-            shape: SHAPE,
-        };
-        let luma = View {
-            list: &y,
-            shape: Shape { width, ..SHAPE },
-        };
-        let mut gb = Grid {
-            list: &mut b,
-            shape: SHAPE,
-        };
-        let answer = lf_correlate(&mut frame, &mut gx, luma, &mut gb, by);
-        Ok(told(frame, answer))
+        let (mut ys, mut bs) = ([2.0f32; 12], [1.0f32; 12]);
+        let Xyb {
+            mut x,
+            mut y,
+            mut b,
+        } = grids(x, &mut ys, &mut bs, SHAPE);
+        y.shape.width = width;
+        let answer = lf_correlate(&mut frame, &mut x, y.view(), &mut b, by);
+        Ok(seen(&frame, answer))
     }
 
     #[test]
@@ -159,7 +120,7 @@ mod tests {
             b_factor_lf: 128,
         };
         let endless = Correlation {
-            base_correlation_b: 0.0 / 0.0,
+            base_correlation_b: f32::NAN,
             ..by
         };
         let nought = Correlation {
@@ -175,45 +136,22 @@ mod tests {
             ..by
         };
         let mut x = [5.0f32; 12];
-        assert_eq!(rt;
-            correlated(Stage::Placing, 3, by, &mut x)?,
-            [0, 1, 0, 0, 0],
-            "TURN"
-        );
-        let smoothed = correlated(Stage::LfSmoothed, 3, by, &mut x)?;
-        assert_eq!(rt; smoothed, [3, 1, 0, 0, 0], "TURN again");
-        let stage = Stage::LfDequantised;
-        assert_eq!(rt;
-            correlated(stage, 2, nought, &mut x)?,
-            [1, 2, 0, 0, 0],
-            "SHAPE"
-        );
-        assert_eq!(rt;
-            correlated(stage, 3, nought, &mut x)?,
-            [1, 8, 0, 0, 0],
-            "RANGE: 0"
-        );
-        assert_eq!(rt;
-            correlated(stage, 3, large, &mut x)?,
-            [1, 8, 0, 0, 0],
-            "RANGE: 65,794"
-        );
-        assert_eq!(rt;
-            correlated(stage, 3, byte, &mut x)?,
-            [1, 8, 0, 0, 0],
-            "RANGE: 256"
-        );
-        assert_eq!(rt;
-            correlated(stage, 3, endless, &mut x)?,
-            [1, 9, 0, 0, 0],
-            "FLOAT"
-        );
+        let ready = Stage::LfDequantised;
+        for (stage, width, by, expected, what) in [
+            (Stage::Placing, 3, by, refused(0, 1), "TURN"),
+            (Stage::LfSmoothed, 3, by, refused(3, 1), "TURN again"),
+            (ready, 2, nought, refused(1, 2), "SHAPE"),
+            (ready, 3, nought, refused(1, 8), "RANGE: 0"),
+            (ready, 3, large, refused(1, 8), "RANGE: 65,794"),
+            (ready, 3, byte, refused(1, 8), "RANGE: 256"),
+            (ready, 3, endless, refused(1, 9), "FLOAT"),
+        ] {
+            let found = correlated(stage, width, by, &mut x)?;
+            assert_eq!(rt; found, expected, "{what}");
+        }
         assert!(rt; x[0] == 5.0, "nothing is written yet");
-        assert_eq!(rt;
-            correlated(stage, 3, by, &mut x)?,
-            [2, 0, 0, 0, 0],
-            "accepted"
-        );
+        let good = correlated(ready, 3, by, &mut x)?;
+        assert_eq!(rt; good, (2, Ok(0)), "accepted");
         assert!(rt;
             (x[0] == 7.0) & (x[3] == 5.0),
             "5 and once 2, and beyond the width"
@@ -227,28 +165,18 @@ mod tests {
         width: usize,
         step: f32,
         scratch: &mut [f32],
-    ) -> Result<[usize; 5], Fail> {
+    ) -> Result<Seen, Refusal> {
         let mut frame = framed(stage)?;
-        let (mut x, mut y, mut b) = ([1.0f32; 12], [2.0f32; 12], [3.0f32; 12]);
+        let (mut xs, mut ys, mut bs) = ([1.0f32; 12], [2.0f32; 12], [3.0f32; 12]);
+        let mut lf = grids(&mut xs, &mut ys, &mut bs, SHAPE);
+        lf.b.shape.width = width;
         let steps = Xyb {
             x: 1.0f32,
             y: 1.0,
             b: step,
         };
-        let mut gx = Grid {
-            list: &mut x,
-            shape: SHAPE,
-        };
-        let mut gy = Grid {
-            list: &mut y,
-            shape: SHAPE,
-        };
-        let mut gb = Grid {
-            list: &mut b,
-            shape: Shape { width, ..SHAPE },
-        };
-        let answer = lf_smooth(&mut frame, &mut gx, &mut gy, &mut gb, steps, scratch);
-        Ok(told(frame, answer))
+        let answer = lf_smooth(&mut frame, &mut lf, steps, scratch);
+        Ok(seen(&frame, answer))
     }
 
     #[test]
@@ -256,36 +184,21 @@ mod tests {
         let mut short = [9.0f32; 26];
         let mut long = [9.0f32; 27];
         let stage = Stage::LfDequantised;
-        assert_eq!(rt;
-            smoothed(Stage::Placing, 3, 1.0, &mut long)?,
-            [0, 1, 0, 0, 0],
-            "TURN"
-        );
-        assert_eq!(rt;
-            smoothed(stage, 2, 0.0, &mut short)?,
-            [1, 2, 0, 0, 0],
-            "SHAPE"
-        );
-        assert_eq!(rt;
-            smoothed(stage, 3, 0.0, &mut short)?,
-            [1, 3, 0, 0, 0],
-            "SCRATCH"
-        );
-        assert_eq!(rt;
-            smoothed(stage, 3, 0.0, &mut long)?,
-            [1, 9, 0, 0, 0],
-            "FLOAT: 0"
-        );
-        let endless = smoothed(stage, 3, 1.0 / 0.0, &mut long)?;
-        assert_eq!(rt; endless, [1, 9, 0, 0, 0], "FLOAT: infinity");
+        let early = smoothed(Stage::Placing, 3, 1.0, &mut long)?;
+        assert_eq!(rt; early, refused(0, 1), "TURN");
+        let narrow = smoothed(stage, 2, 0.0, &mut short)?;
+        assert_eq!(rt; narrow, refused(1, 2), "SHAPE");
+        let tight = smoothed(stage, 3, 0.0, &mut short)?;
+        assert_eq!(rt; tight, refused(1, 3), "SCRATCH");
+        let nought = smoothed(stage, 3, 0.0, &mut long)?;
+        assert_eq!(rt; nought, refused(1, 9), "FLOAT: 0");
+        let endless = smoothed(stage, 3, f32::INFINITY, &mut long)?;
+        assert_eq!(rt; endless, refused(1, 9), "FLOAT: infinity");
         assert!(rt; long == [9.0; 27], "scratch is as it was");
-        assert_eq!(rt;
-            smoothed(stage, 3, 1.0, &mut long)?,
-            [3, 0, 0, 0, 0],
-            "from 1"
-        );
+        let good = smoothed(stage, 3, 1.0, &mut long)?;
+        assert_eq!(rt; good, (3, Ok(0)), "from 1");
         let later = smoothed(Stage::LfCorrelated, 3, 1.0, &mut long)?;
-        assert_eq!(rt; later, [3, 0, 0, 0, 0], "from 2");
+        assert_eq!(rt; later, (3, Ok(0)), "from 2");
         Ok(())
     }
 }

@@ -1,8 +1,9 @@
 //! The words of a line.
 
 use anyhow::anyhow;
+use std::error::Error as StdError;
 use std::num::f32_from_bits_with_nan;
-use std::str::SplitWhitespace;
+use std::str::{FromStr, SplitWhitespace};
 
 /// The words of a line that were not read yet.
 #[derive(Drop)]
@@ -18,22 +19,15 @@ impl<'a> Words<'a> {
     }
 
     pub fn word(&mut self) -> anyhow::Result<&'a str> {
-        match self.rest.next() {
-            Some(word) => Ok(word),
-            None => Err(anyhow!("a word is missing")),
-        }
+        self.rest.next().ok_or_else(|| anyhow!("a word is missing"))
     }
 
-    pub fn size(&mut self) -> anyhow::Result<usize> {
-        Ok(self.word()?.parse::<usize>()?)
-    }
-
-    pub fn count(&mut self) -> anyhow::Result<u32> {
-        Ok(self.word()?.parse::<u32>()?)
-    }
-
-    pub fn number(&mut self) -> anyhow::Result<i32> {
-        Ok(self.word()?.parse::<i32>()?)
+    /// A number in decimal digits.
+    pub fn number<T: FromStr + Drop>(&mut self) -> anyhow::Result<T>
+    where
+        T::Err: StdError + Drop,
+    {
+        Ok(self.word()?.parse::<T>()?)
     }
 
     /// A sample, from the hexadecimal digits of its bits.

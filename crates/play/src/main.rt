@@ -2,13 +2,17 @@
 
 #![tactic(auto)]
 
+mod command;
+mod done;
 mod draw;
 mod memory;
+mod name;
 mod player;
 mod script;
 mod sheet;
 
-use player::{Picture, Player};
+use done::{BadLine, Done, Picture};
+use player::Player;
 use std::fs;
 use std::io::{BufRead, BufReader};
 
@@ -22,12 +26,19 @@ fn run(rt: &HostRuntime) -> anyhow::Result<()> {
     let mut player = Player::new(heap);
     for line in BufReader::new(heap, rt.stdin())?.lines(heap) {
         let line = line?;
-        rt.print(player.play_line(line.as_str())?)?;
-        if let Some(picture) = player.take_picture() {
-            write_picture(rt, picture)?;
-        }
+        show(rt, player.play_line(line.as_str()))?;
     }
-    rt.print(player.tally()?)?;
+    rt.println(player.tally())?;
+    Ok(())
+}
+
+/// Prints what a line came to.
+fn show(rt: &HostRuntime, played: Result<Done, BadLine<'_>>) -> anyhow::Result<()> {
+    match played {
+        Ok(Done::Drawn(picture)) => write_picture(rt, picture)?,
+        Ok(done) => rt.print(done)?,
+        Err(bad_line) => rt.println(bad_line)?,
+    }
     Ok(())
 }
 

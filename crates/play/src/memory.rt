@@ -1,22 +1,17 @@
-//! The memory that is lent to the calls on a frame, and the calls.
+//! The memory that is lent to the calls on a frame, and the commands on it.
 
+mod calls;
+
+use crate::command::OnFrame;
+use crate::done::{Done, Picture};
+use crate::draw::{bit_rows, map_rows, picture, sample_rows};
+use crate::name::{GridKind, Name};
 use crate::script::{Mistake, Words};
-use crate::sheet::{Sheet, Sheets};
+use crate::sheet::{Elements, Sheet, sheets};
 use frame::Frame;
-use grid::{Grid, Shape, View, Xyb};
-use hf::{Quantiser, hf_dequantise};
-use hf_correlate::{Correlation as HfCorrelation, hf_correlate};
-use kernel::Kernel;
-use lf::{Correlation, lf_correlate, lf_dequantise, lf_smooth};
-use rebuild::rebuild;
-use refusal::Refusal;
+use grid::{View, Xyb};
 use std::alloc::{AllocError, Global};
-use transform::{Mean, Vardct};
 use varmap::Cell;
-use weights::Weights;
-
-/// What a call answers.
-pub type Answer = Result<u32, Refusal>;
 
 /// How many numbers of scratch there are: enough for every call.
 const SCRATCH: usize = 49152;
@@ -27,454 +22,155 @@ const WEIGHTS: usize = 65536;
 /// An open frame, and all that its calls are lent.
 #[derive(Drop)]
 pub struct Memory {
+    heap: Global,
     frame: Frame,
-    pub map: Sheet<Cell>,
-    lf: Sheets<f32>,
-    numbers: Sheets<i32>,
-    samples: Sheets<f32>,
-    coefficients: Sheets<i32>,
-    tiles: Sheets<i32>,
-    weights: Sheets<f32>,
-    starts: Sheets<u32>,
+    map: Sheet<Cell>,
+    lf: Xyb<Sheet<f32>>,
+    numbers: Xyb<Sheet<i32>>,
+    samples: Xyb<Sheet<f32>>,
+    coefficients: Xyb<Sheet<i32>>,
+    tiles: Xyb<Sheet<i32>>,
+    weights: Xyb<Sheet<f32>>,
+    starts: Xyb<Sheet<u32>>,
     scratch: Vec<f32>,
 }
 
-/// A grid that a script can name, with its channel.
-#[derive(Clone, Copy)]
-enum Place {
-    Lf(usize),
-    Numbers(usize),
-    Samples(usize),
-    Coefficients(usize),
-    Tiles(usize),
-    Weights(usize),
-    Starts(usize),
-}
-
-/// What a name as `lf-x` stands for: the kind of grid, then its channel.
-fn place_of(name: &str) -> Option<Place> {
-    let mut parts = name.splitn(2, '-');
-    let (Some(grid), Some(channel)) = (parts.next(), parts.next()) else {
-        return None;
-    };
-    let channel = match channel {
-        "x" => 0,
-        "y" => 1,
-        "b" => 2,
-        _ => return None,
-    };
-    grid_of(grid, channel)
-}
-
-fn grid_of(grid: &str, channel: usize) -> Option<Place> {
-    match grid {
-        "lf" => Some(Place::Lf(channel)),
-        "numbers" => Some(Place::Numbers(channel)),
-        "samples" => Some(Place::Samples(channel)),
-        "coefficients" => Some(Place::Coefficients(channel)),
-        "tiles" => Some(Place::Tiles(channel)),
-        "weights" => Some(Place::Weights(channel)),
-        "starts" => Some(Place::Starts(channel)),
-        _ => None,
-    }
+/// A sheet that is lent to be written, by what its elements are.
+#[derive(Drop)]
+enum Lent<'m> {
+    Floats(&'m mut Sheet<f32>),
+    Wholes(&'m mut Sheet<i32>),
+    Starts(&'m mut Sheet<u32>),
 }
 
 impl Memory {
     /// Memory for an opened frame. Every number is 0, but weights are 1.
     pub fn new(heap: Global, frame: Frame, map: Sheet<Cell>) -> Result<Memory, AllocError> {
         let (w8, h8) = (frame.w8(), frame.h8());
-        let lf = Sheets::new(heap, w8, h8, 0.0)?;
-        let numbers = Sheets::new(heap, w8, h8, 0)?;
-        let samples = Sheets::new(heap, 8 * w8, 8 * h8, 0.0)?;
-        let coefficients = Sheets::new(heap, 8 * w8, 8 * h8, 0)?;
-        let tiles = Sheets::new(heap, (w8 + 7) / 8, (h8 + 7) / 8, 0)?;
-        let weights = Sheets::new(heap, WEIGHTS, 1, 1.0)?;
-        let starts = Sheets::new(heap, 27, 1, 0)?;
-        let scratch = vec![in heap; 0.0; SCRATCH]?;
+        let (w, h) = (8 * w8, 8 * h8);
         Ok(Memory {
+            heap,
             frame,
             map,
-            lf,
-            numbers,
-            samples,
-            coefficients,
-            tiles,
-            weights,
-            starts,
-            scratch,
+            lf: sheets(heap, w8, h8, 0.0)?,
+            numbers: sheets(heap, w8, h8, 0)?,
+            samples: sheets(heap, w, h, 0.0)?,
+            coefficients: sheets(heap, w, h, 0)?,
+            tiles: sheets(heap, w8.div_ceil(8), h8.div_ceil(8), 0)?,
+            weights: sheets(heap, WEIGHTS, 1, 1.0)?,
+            starts: sheets(heap, 27, 1, 0)?,
+            scratch: vec![in heap; 0.0; SCRATCH]?,
         })
     }
 
-    /// Makes the call that a word names, with what stands after it.
-    pub fn call<'a>(
+    /// Does what a command asks for.
+    pub fn command<'a>(
         &mut self,
-        name: &'a str,
+        command: OnFrame,
         words: &mut Words<'a>,
-    ) -> Result<Answer, Mistake<'a>> {
-        match name {
-            "place" => self.place(words),
-            "lf-dequantise" => self.lf_dequantise(words),
-            "lf-correlate" => self.lf_correlate(words),
-            "lf-smooth" => self.lf_smooth(words),
-            "hf-dequantise" => self.hf_dequantise(words),
-            "hf-correlate" => self.hf_correlate(words),
-            "rebuild" => self.rebuild(words),
-            _ => Err(Mistake::Unknown(name)),
+    ) -> Result<Done, Mistake<'a>> {
+        match command {
+            OnFrame::Call(call) => Ok(Done::from(self.call(call, words)?)),
+            OnFrame::Map => self.print_map(words),
+            OnFrame::Samples => self.print_samples(words, sample_rows),
+            OnFrame::Bits => self.print_samples(words, bit_rows),
+            OnFrame::Picture => self.draw(words),
+            OnFrame::All => self.set_all(words),
+            OnFrame::At => self.set_at(words),
         }
     }
 
-    /// `place KIND X Y HF_MUL`
-    fn place<'a>(&mut self, words: &mut Words<'a>) -> Result<Answer, Mistake<'a>> {
-        let mut n = [0u32; 4];
-        words.wholes(&mut n)?;
+    /// `map`
+    fn print_map<'a>(&self, words: &mut Words<'a>) -> Result<Done, Mistake<'a>> {
         words.end()?;
-        let shape = self.map.shape;
-        let list = self.map.list.as_mut_slice();
-        Ok(place_on(&self.frame, list, shape, n))
+        Ok(Done::Printed(map_rows(self.heap, self.map.view())?))
     }
 
-    /// `lf-dequantise SCALE_X SCALE_Y SCALE_B`
-    fn lf_dequantise<'a>(&mut self, words: &mut Words<'a>) -> Result<Answer, Mistake<'a>> {
-        let mut scales = [0.0f32; 3];
-        words.floats(&mut scales)?;
+    /// `samples NAME` and `bits NAME`: the samples as what `rows` makes of them.
+    fn print_samples<'a, F>(&self, words: &mut Words<'a>, rows: F) -> Result<Done, Mistake<'a>>
+    where
+        F: Fn(Global, View<'_, f32>) -> Result<String, AllocError>,
+        requires { F.IsAlwaysCallable rows }
+    {
+        let word = words.word("name")?;
         words.end()?;
-        let numbers = self.numbers.views();
-        let shape = self.lf.x.shape;
-        let x = self.lf.x.list.as_mut_slice();
-        let y = self.lf.y.list.as_mut_slice();
-        let b = self.lf.b.list.as_mut_slice();
-        Ok(dequantise_on(&mut self.frame, shape, x, y, b, numbers, three(scales)))
+        let samples = self.samples(word)?;
+        Ok(Done::Printed(rows(self.heap, samples)?))
     }
 
-    /// `lf-correlate COLOUR_FACTOR FACTOR_X FACTOR_B BASE_X BASE_B`
-    fn lf_correlate<'a>(&mut self, words: &mut Words<'a>) -> Result<Answer, Mistake<'a>> {
-        let mut n = [0u32; 3];
-        let mut bases = [0.0f32; 2];
-        words.wholes(&mut n)?;
-        words.floats(&mut bases)?;
+    /// `picture NAME FILE BLACK WHITE`
+    fn draw<'a>(&self, words: &mut Words<'a>) -> Result<Done, Mistake<'a>> {
+        let word = words.word("name")?;
+        let file = words.word("file")?;
+        let black = words.float()?;
+        let white = words.float()?;
         words.end()?;
-        let by = Correlation {
-            colour_factor: n[0],
-            base_correlation_x: bases[0],
-            base_correlation_b: bases[1],
-            x_factor_lf: n[1],
-            b_factor_lf: n[2],
-        };
-        let shape = self.lf.x.shape;
-        let y = self.lf.y.view();
-        let x = self.lf.x.list.as_mut_slice();
-        let b = self.lf.b.list.as_mut_slice();
-        Ok(correlate_on(&mut self.frame, shape, x, y, b, by))
-    }
-
-    /// `lf-smooth STEP_X STEP_Y STEP_B ROOM`, with at most so many numbers of scratch
-    fn lf_smooth<'a>(&mut self, words: &mut Words<'a>) -> Result<Answer, Mistake<'a>> {
-        let mut steps = [0.0f32; 3];
-        words.floats(&mut steps)?;
-        let room: usize = words.number("number of scratch")?;
-        words.end()?;
-        let shape = self.lf.x.shape;
-        let x = self.lf.x.list.as_mut_slice();
-        let y = self.lf.y.list.as_mut_slice();
-        let b = self.lf.b.list.as_mut_slice();
-        let scratch = self.scratch.as_mut_slice();
-        let room = room.min(scratch.len());
-        Ok(smooth_on(
-            &mut self.frame,
-            shape,
-            x,
-            y,
-            b,
-            three(steps),
-            &mut scratch[0..room],
-        ))
-    }
-
-    /// `hf-dequantise GLOBAL_SCALE QM_X QM_Y QM_B BIAS_X BIAS_Y BIAS_B NUMERATOR`
-    fn hf_dequantise<'a>(&mut self, words: &mut Words<'a>) -> Result<Answer, Mistake<'a>> {
-        let global_scale: u32 = words.number("global scale")?;
-        let mut n = [0.0f32; 7];
-        words.floats(&mut n)?;
-        words.end()?;
-        let by = Quantiser {
-            global_scale,
-            qm_scale: three([n[0], n[1], n[2]]),
-            quant_bias: three([n[3], n[4], n[5]]),
-            quant_bias_numerator: n[6],
-        };
-        let map = self.map.view();
-        let coefficients = self.coefficients.views();
-        let weights = Xyb {
-            x: weights_of(&self.weights.x, &self.starts.x),
-            y: weights_of(&self.weights.y, &self.starts.y),
-            b: weights_of(&self.weights.b, &self.starts.b),
-        };
-        let shape = self.samples.x.shape;
-        let x = self.samples.x.list.as_mut_slice();
-        let y = self.samples.y.list.as_mut_slice();
-        let b = self.samples.b.list.as_mut_slice();
-        Ok(hf_on(
-            &mut self.frame,
-            map,
-            shape,
-            x,
-            y,
-            b,
-            coefficients,
-            weights,
-            by,
-        ))
-    }
-
-    /// `hf-correlate COLOUR_FACTOR BASE_X BASE_B`
-    fn hf_correlate<'a>(&mut self, words: &mut Words<'a>) -> Result<Answer, Mistake<'a>> {
-        let colour_factor: u32 = words.number("colour factor")?;
-        let mut bases = [0.0f32; 2];
-        words.floats(&mut bases)?;
-        words.end()?;
-        let by = HfCorrelation {
-            colour_factor,
-            base_correlation_x: bases[0],
-            base_correlation_b: bases[1],
-        };
-        let tiles = self.tiles.views();
-        let shape = self.samples.x.shape;
-        let y = self.samples.y.view();
-        let x = self.samples.x.list.as_mut_slice();
-        let b = self.samples.b.list.as_mut_slice();
-        Ok(hf_correlate_on(&mut self.frame, shape, x, y, b, tiles, by))
-    }
-
-    /// `rebuild crate ROOM` or `rebuild mean ROOM`, with at most so many numbers of scratch
-    fn rebuild<'a>(&mut self, words: &mut Words<'a>) -> Result<Answer, Mistake<'a>> {
-        let kernel = words.word("kernel")?;
-        let room: usize = words.number("number of scratch")?;
-        words.end()?;
-        let map = self.map.view();
-        let lf = self.lf.views();
-        let shape = self.samples.x.shape;
-        let x = self.samples.x.list.as_mut_slice();
-        let y = self.samples.y.list.as_mut_slice();
-        let b = self.samples.b.list.as_mut_slice();
-        let scratch = self.scratch.as_mut_slice();
-        let room = room.min(scratch.len());
-        let scratch = &mut scratch[0..room];
-        match kernel {
-            "crate" => Ok(rebuild_on(&mut self.frame, &Vardct, map, lf, shape, x, y, b, scratch)),
-            "mean" => Ok(rebuild_on(&mut self.frame, &Mean, map, lf, shape, x, y, b, scratch)),
-            _ => Err(Mistake::NoNumber(kernel, "kernel")),
-        }
+        let samples = self.samples(word)?;
+        let file = String::from_str(self.heap, file)?;
+        let text = picture(self.heap, samples, black, white)?;
+        Ok(Done::Drawn(Picture { file, text }))
     }
 
     /// The samples that a word names.
-    pub fn samples(&self, name: &str) -> Option<View<'_, f32>> {
-        match place_of(name) {
-            Some(Place::Lf(channel)) => Some(self.lf.channel(channel)),
-            Some(Place::Samples(channel)) => Some(self.samples.channel(channel)),
-            _ => None,
+    fn samples<'a>(&self, word: &'a str) -> Result<View<'_, f32>, Mistake<'a>> {
+        match Name::of(word) {
+            Some(Name(GridKind::Lf, channel)) => Ok(channel.pick(&self.lf).view()),
+            Some(Name(GridKind::Samples, channel)) => Ok(channel.pick(&self.samples).view()),
+            _ => Err(Mistake::Wrong(word, "name")),
         }
     }
 
     /// `all NAME VALUE`: every element becomes the value.
-    pub fn set_all<'a>(&mut self, words: &mut Words<'a>) -> Result<(), Mistake<'a>> {
-        let name = words.word("name")?;
-        let Some(place) = place_of(name) else {
-            return Err(Mistake::NoNumber(name, "name"));
-        };
-        let value = Value::read(place, words)?;
-        words.end()?;
-        match (place, value) {
-            (Place::Lf(c), Value::Float(v)) => self.lf.fill(c, v),
-            (Place::Samples(c), Value::Float(v)) => self.samples.fill(c, v),
-            (Place::Weights(c), Value::Float(v)) => self.weights.fill(c, v),
-            (Place::Numbers(c), Value::Whole(v)) => self.numbers.fill(c, v),
-            (Place::Coefficients(c), Value::Whole(v)) => self.coefficients.fill(c, v),
-            (Place::Tiles(c), Value::Whole(v)) => self.tiles.fill(c, v),
-            (Place::Starts(c), Value::Start(v)) => self.starts.fill(c, v),
-            _ => {}
-        }
-        Ok(())
+    fn set_all<'a>(&mut self, words: &mut Words<'a>) -> Result<Done, Mistake<'a>> {
+        let sheet = self.lend(words)?;
+        set(sheet, Elements::All, words)
     }
 
     /// `at NAME X Y VALUE`: the element (x, y) becomes the value.
-    pub fn set_at<'a>(&mut self, words: &mut Words<'a>) -> Result<(), Mistake<'a>> {
-        let name = words.word("name")?;
-        let Some(place) = place_of(name) else {
-            return Err(Mistake::NoNumber(name, "name"));
-        };
+    fn set_at<'a>(&mut self, words: &mut Words<'a>) -> Result<Done, Mistake<'a>> {
+        let sheet = self.lend(words)?;
         let x = words.number("column")?;
         let y = words.number("row")?;
-        let value = Value::read(place, words)?;
-        words.end()?;
-        if self.put(place, x, y, value) {
-            Ok(())
-        } else {
-            Err(Mistake::Why("there is no such element"))
-        }
+        set(sheet, Elements::At { x, y }, words)
     }
 
-    fn put(&mut self, place: Place, x: usize, y: usize, value: Value) -> bool {
-        match (place, value) {
-            (Place::Lf(c), Value::Float(v)) => self.lf.put(c, x, y, v),
-            (Place::Samples(c), Value::Float(v)) => self.samples.put(c, x, y, v),
-            (Place::Weights(c), Value::Float(v)) => self.weights.put(c, x, y, v),
-            (Place::Numbers(c), Value::Whole(v)) => self.numbers.put(c, x, y, v),
-            (Place::Coefficients(c), Value::Whole(v)) => self.coefficients.put(c, x, y, v),
-            (Place::Tiles(c), Value::Whole(v)) => self.tiles.put(c, x, y, v),
-            (Place::Starts(c), Value::Start(v)) => self.starts.put(c, x, y, v),
-            _ => false,
-        }
+    /// The sheet that the next word names.
+    fn lend<'a>(&mut self, words: &mut Words<'a>) -> Result<Lent<'_>, Mistake<'a>> {
+        let word = words.word("name")?;
+        let Name(kind, channel) = Name::of(word).ok_or(Mistake::Wrong(word, "name"))?;
+        Ok(match kind {
+            GridKind::Lf => Lent::Floats(channel.pick_mut(&mut self.lf)),
+            GridKind::Samples => Lent::Floats(channel.pick_mut(&mut self.samples)),
+            GridKind::Weights => Lent::Floats(channel.pick_mut(&mut self.weights)),
+            GridKind::Numbers => Lent::Wholes(channel.pick_mut(&mut self.numbers)),
+            GridKind::Coefficients => Lent::Wholes(channel.pick_mut(&mut self.coefficients)),
+            GridKind::Tiles => Lent::Wholes(channel.pick_mut(&mut self.tiles)),
+            GridKind::Starts => Lent::Starts(channel.pick_mut(&mut self.starts)),
+        })
     }
 }
 
-/// A number of a script.
-#[derive(Clone, Copy)]
-enum Value {
-    Float(f32),
-    Whole(i32),
-    Start(u32),
-}
-
-impl Value {
-    /// The next word, as a number of the kind that the place holds.
-    fn read<'a>(place: Place, words: &mut Words<'a>) -> Result<Value, Mistake<'a>> {
-        match place {
-            Place::Lf(_) | Place::Samples(_) | Place::Weights(_) => {
-                Ok(Value::Float(words.float("number")?))
-            }
-            Place::Starts(_) => Ok(Value::Start(words.number("whole number")?)),
-            _ => Ok(Value::Whole(words.number("whole number")?)),
-        }
+/// The elements become the value that the last word stands for.
+fn set<'a>(
+    sheet: Lent<'_>,
+    elements: Elements,
+    words: &mut Words<'a>,
+) -> Result<Done, Mistake<'a>> {
+    match sheet {
+        Lent::Floats(sheet) => set_to(sheet, elements, words.float()?, words),
+        Lent::Wholes(sheet) => set_to(sheet, elements, words.whole()?, words),
+        Lent::Starts(sheet) => set_to(sheet, elements, words.whole()?, words),
     }
 }
 
-/// Whether a word names a command that wants an open frame.
-pub fn wants_frame(name: &str) -> bool {
-    match name {
-        "place" | "lf-dequantise" | "lf-correlate" | "lf-smooth" => true,
-        "hf-dequantise" | "hf-correlate" | "rebuild" => true,
-        "map" | "samples" | "bits" | "picture" | "all" | "at" => true,
-        _ => false,
-    }
-}
-
-fn three(list: [f32; 3]) -> Xyb<f32> {
-    Xyb {
-        x: list[0],
-        y: list[1],
-        b: list[2],
-    }
-}
-
-fn place_on(frame: &Frame, list: &mut [Cell], shape: Shape, n: [u32; 4]) -> Answer {
-    let mut map = Grid { list, shape };
-    frame.place(&mut map, n[0], n[1] as usize, n[2] as usize, n[3])
-}
-
-fn dequantise_on(
-    frame: &mut Frame,
-    shape: Shape,
-    xs: &mut [f32],
-    ys: &mut [f32],
-    bs: &mut [f32],
-    numbers: Xyb<View<i32>>,
-    scales: Xyb<f32>,
-) -> Answer {
-    let mut x = Grid { list: xs, shape };
-    let mut y = Grid { list: ys, shape };
-    let mut b = Grid { list: bs, shape };
-    lf_dequantise(frame, &mut x, &mut y, &mut b, numbers, scales)
-}
-
-fn correlate_on(
-    frame: &mut Frame,
-    shape: Shape,
-    xs: &mut [f32],
-    luma: View<f32>,
-    bs: &mut [f32],
-    by: Correlation,
-) -> Answer {
-    let mut x = Grid { list: xs, shape };
-    let mut b = Grid { list: bs, shape };
-    lf_correlate(frame, &mut x, luma, &mut b, by)
-}
-
-fn smooth_on(
-    frame: &mut Frame,
-    shape: Shape,
-    xs: &mut [f32],
-    ys: &mut [f32],
-    bs: &mut [f32],
-    steps: Xyb<f32>,
-    scratch: &mut [f32],
-) -> Answer {
-    let mut x = Grid { list: xs, shape };
-    let mut y = Grid { list: ys, shape };
-    let mut b = Grid { list: bs, shape };
-    lf_smooth(frame, &mut x, &mut y, &mut b, steps, scratch)
-}
-
-/// The weights of a channel.
-fn weights_of<'a>(list: &'a Sheet<f32>, starts: &'a Sheet<u32>) -> Weights<'a> {
-    Weights {
-        list: list.list.as_slice(),
-        starts: starts.list.as_slice(),
-    }
-}
-
-fn hf_on(
-    frame: &mut Frame,
-    map: View<Cell>,
-    shape: Shape,
-    xs: &mut [f32],
-    ys: &mut [f32],
-    bs: &mut [f32],
-    coefficients: Xyb<View<i32>>,
-    weights: Xyb<Weights>,
-    by: Quantiser,
-) -> Answer {
-    let mut x = Grid { list: xs, shape };
-    let mut y = Grid { list: ys, shape };
-    let mut b = Grid { list: bs, shape };
-    hf_dequantise(
-        frame,
-        map,
-        &mut x,
-        &mut y,
-        &mut b,
-        coefficients,
-        weights,
-        by,
-    )
-}
-
-fn hf_correlate_on(
-    frame: &mut Frame,
-    shape: Shape,
-    xs: &mut [f32],
-    luma: View<f32>,
-    bs: &mut [f32],
-    tiles: Xyb<View<i32>>,
-    by: HfCorrelation,
-) -> Answer {
-    let mut x = Grid { list: xs, shape };
-    let mut b = Grid { list: bs, shape };
-    hf_correlate(frame, &mut x, luma, &mut b, tiles.x, tiles.b, by)
-}
-
-fn rebuild_on<K: Kernel>(
-    frame: &mut Frame,
-    kernel: &K,
-    map: View<Cell>,
-    lf: Xyb<View<f32>>,
-    shape: Shape,
-    xs: &mut [f32],
-    ys: &mut [f32],
-    bs: &mut [f32],
-    scratch: &mut [f32],
-) -> Answer {
-    let mut x = Grid { list: xs, shape };
-    let mut y = Grid { list: ys, shape };
-    let mut b = Grid { list: bs, shape };
-    rebuild(frame, kernel, map, lf, &mut x, &mut y, &mut b, scratch)
+/// The elements become the value, if nothing stands after it.
+fn set_to<'a, T: Copy + Drop>(
+    sheet: &mut Sheet<T>,
+    elements: Elements,
+    value: T,
+    words: &mut Words<'a>,
+) -> Result<Done, Mistake<'a>> {
+    words.end()?;
+    sheet.set(elements, value)?;
+    Ok(Done::Set)
 }

@@ -1,12 +1,22 @@
 //! Grids that own their lists.
 
-use grid::{Shape, View, Xyb, write};
+use crate::script::Mistake;
+use grid::{Area, Grid, Shape, Solid, View, Xyb};
 use std::alloc::{AllocError, Global};
 
+/// A list with the shape of the grid that it is lent as.
 #[derive(Drop)]
 pub struct Sheet<T> {
-    pub list: Vec<T>,
-    pub shape: Shape,
+    list: Vec<T>,
+    shape: Shape,
+}
+
+/// Elements of a sheet.
+#[derive(Clone, Copy)]
+pub enum Elements {
+    All,
+    /// The one in column `x` and row `y`.
+    At { x: usize, y: usize },
 }
 
 impl<T: Copy + Drop> Sheet<T> {
@@ -17,18 +27,15 @@ impl<T: Copy + Drop> Sheet<T> {
         height: usize,
         value: T,
     ) -> Result<Sheet<T>, AllocError> {
-        let mut list = Vec::new(heap);
-        for _ in 0..height {
-            for _ in 0..width {
-                list.push(value)?;
-            }
-        }
-        let shape = Shape {
-            width,
-            height,
-            stride: width,
-        };
-        Ok(Sheet { list, shape })
+        let list = vec![in heap; value; width.saturating_mul(height)]?;
+        Ok(Sheet {
+            list,
+            shape: Shape::dense(width, height),
+        })
+    }
+
+    pub fn as_slice(&self) -> &[T] {
+        self.list.as_slice()
     }
 
     pub fn view(&self) -> View<'_, T> {
@@ -38,77 +45,66 @@ impl<T: Copy + Drop> Sheet<T> {
         }
     }
 
-    /// The element (x, y) becomes `value`, if there is one.
-    fn put(&mut self, x: usize, y: usize, value: T) -> bool {
-        let shape = self.shape;
-        let list = self.list.as_mut_slice();
-        let inside = x < shape.width && y < shape.height;
-        if inside && shape.is_lawful(list.len()) {
-            write(list, shape, x, y, value);
-            return true;
+    // beside `view`: a `&mut` and a `&` of the same, as the two functions below
+    pub fn grid(&mut self) -> Grid<'_, T> {
+        Grid {
+            list: self.list.as_mut_slice(),
+            shape: self.shape,
         }
-        false
     }
 
-    /// Every element becomes `value`.
-    fn fill(&mut self, value: T) {
-        for slot in self.list.as_mut_slice().iter_mut() {
-            *slot = value;
+    /// The elements become `value`, if the sheet has them.
+    pub fn set<'a>(&mut self, elements: Elements, value: T) -> Result<(), Mistake<'a>> {
+        let mut grid = self.grid();
+        let shape = grid.shape;
+        if !shape.is_lawful(grid.list.len()) {
+            return Err(Mistake::NoElement);
         }
+        match elements {
+            Elements::All => grid.fill_with(value),
+            Elements::At { x, y } if x < shape.width && y < shape.height => {
+                let area = Area {
+                    x,
+                    y,
+                    width: 1,
+                    height: 1,
+                };
+                grid.paint(area, &Solid { value });
+            }
+            Elements::At { .. } => return Err(Mistake::NoElement),
+        }
+        Ok(())
     }
 }
 
-/// A sheet for each channel.
-#[derive(Drop)]
-pub struct Sheets<T> {
-    pub x: Sheet<T>,
-    pub y: Sheet<T>,
-    pub b: Sheet<T>,
+/// A sheet of width × height elements for each channel, all `value`.
+pub fn sheets<T: Copy + Drop>(
+    heap: Global,
+    width: usize,
+    height: usize,
+    value: T,
+) -> Result<Xyb<Sheet<T>>, AllocError> {
+    Ok(Xyb {
+        x: Sheet::new(heap, width, height, value)?,
+        y: Sheet::new(heap, width, height, value)?,
+        b: Sheet::new(heap, width, height, value)?,
+    })
 }
 
-impl<T: Copy + Drop> Sheets<T> {
-    pub fn new(
-        heap: Global,
-        width: usize,
-        height: usize,
-        value: T,
-    ) -> Result<Sheets<T>, AllocError> {
-        let x = Sheet::new(heap, width, height, value)?;
-        let y = Sheet::new(heap, width, height, value)?;
-        let b = Sheet::new(heap, width, height, value)?;
-        Ok(Sheets { x, y, b })
+/// The view of each channel.
+pub fn views<T: Copy + Drop>(sheets: &Xyb<Sheet<T>>) -> Xyb<View<'_, T>> {
+    Xyb {
+        x: sheets.x.view(),
+        y: sheets.y.view(),
+        b: sheets.b.view(),
     }
+}
 
-    pub fn views(&self) -> Xyb<View<'_, T>> {
-        Xyb {
-            x: self.x.view(),
-            y: self.y.view(),
-            b: self.b.view(),
-        }
-    }
-
-    /// The sheet of a channel; any number from 2 on stands for B.
-    pub fn channel(&self, channel: usize) -> View<'_, T> {
-        match channel {
-            0 => self.x.view(),
-            1 => self.y.view(),
-            _ => self.b.view(),
-        }
-    }
-
-    pub fn put(&mut self, channel: usize, x: usize, y: usize, value: T) -> bool {
-        match channel {
-            0 => self.x.put(x, y, value),
-            1 => self.y.put(x, y, value),
-            _ => self.b.put(x, y, value),
-        }
-    }
-
-    pub fn fill(&mut self, channel: usize, value: T) {
-        match channel {
-            0 => self.x.fill(value),
-            1 => self.y.fill(value),
-            _ => self.b.fill(value),
-        }
+/// The grid of each channel.
+pub fn grids<T: Copy + Drop>(sheets: &mut Xyb<Sheet<T>>) -> Xyb<Grid<'_, T>> {
+    Xyb {
+        x: sheets.x.grid(),
+        y: sheets.y.grid(),
+        b: sheets.b.grid(),
     }
 }

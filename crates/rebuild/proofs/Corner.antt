@@ -1,45 +1,31 @@
 -- The four steps on a block leave the block's image.
-use Rattle.std.proofs.Common.{◌≡◌, ℕ, ◌+◌, ◌-◌, ◌*◌, ◌<◌, ◌≤◌, Bool, true, false, cond, ◌&&◌, ltb, leb, ◌⊎◌, List, length, get_or, sym, ap, ◌∙◌, subst, inl, inr, arith}
+use Rattle.std.proofs.Common.{◌≡◌, ℕ, ◌+◌, ◌-◌, ◌*◌, ◌<◌, ◌≤◌, Bool, true, false, cond, ◌&&◌, ltb, ◌⊎◌, List, length, get_or, sym, ap, ◌∙◌, subst, inl, inr, arith}
 use mathlib.Core.Path.{fun_ext}
 use lib.Ieee.{Float, nan}
-use Rattle.std.proofs.lemmas.Bool.{cases_Bool, and_parts, ltb-true, lt-ltb, leb-true, and_from, cond-true, cond-false}
+use Rattle.std.proofs.lemmas.Bool.{cases_Bool, and_parts, ltb-true, lt-ltb, and_from, cond-true, cond-false}
 use Rattle.std.proofs.lemmas.Bool.Decides.{nat_tests}
 use Rattle.grid.specs.declared.Shape.{Shape}
 use Rattle.grid.specs.declared.brush.Area.{Area}
+use Rattle.grid.specs.declared.canvas.Canvas.{Canvas}
+use Rattle.grid.specs.Drawn.{Drawn}
 use Rattle.grid.specs.Index.{index, Lawful}
 use Rattle.grid.specs.Painted.{painted, patch}
 use Rattle.grid.specs.Window.{window}
 use Rattle.grid.specs.Plane.{Plane, sample}
-use Rattle.grid.proofs.Laws.{painted_in, painted_alike, painted_twice}
+use Rattle.grid.proofs.Laws.{painted_in, painted_twice}
 use Rattle.kinds.specs.Kinds.{wide, high}
+use Rattle.kinds.proofs.Sizes.{wide_is, high_is}
 use Rattle.dct_2d.specs.Plane.{Patch}
 use Rattle.blocks.specs.declared.leads.Varblock.{Varblock}
+use Rattle.blocks.specs.declared.block.Block.{Block}
+use Rattle.blocks.specs.Areas.{area_of, corner_of}
 use Rattle.blocks.specs.Blocks.{block, one_block}
+use Rattle.blocks.proofs.Patches.{patch_alike}
 use Rattle.kernel.specs.Maps.{Maps, imaged}
 use Rattle.kernel.specs.Corner.{corner, cornered, block_image}
 use Rattle.rebuild.specs.Rebuilt.{lf_at, divided, lf_patch, rebuilding}
 
 module _ (s : Shape) (x y : ℕ) (xs : List Float) (l : Lawful s (length xs)) where
-  -- functions that agree on the patch
-  pub patch_alike : (w h : ℕ) (f g : Patch) → ((i j : ℕ) → i < w → j < h → f i j ≡ g i j)
-      → painted s (patch x y w h (λ i j _. f i j)) xs ≡ painted s (patch x y w h (λ i j _. g i j)) xs
-  patch_alike w h f g e =
-      painted_alike s _ _ xs l (λ p q old k. at p q old (cases_Bool ((leb x p && ltb p (x + w)) && (leb y q && ltb q (y + h)))))
-    where
-      at : (p q : ℕ) (old : Float)
-          → (((leb x p && ltb p (x + w)) && (leb y q && ltb q (y + h))) ≡ true) ⊎ (((leb x p && ltb p (x + w)) && (leb y q && ltb q (y + h))) ≡ false)
-          → patch x y w h (λ i j _. f i j) p q old ≡ patch x y w h (λ i j _. g i j) p q old
-      at p q old (inl t) =
-          let r = and_parts (leb x p && ltb p (x + w)) (leb y q && ltb q (y + h)) t in
-          let horizontal = and_parts (leb x p) (ltb p (x + w)) r.0 in
-          let vertical = and_parts (leb y q) (ltb q (y + h)) r.1 in
-          let a0 = leb-true _ _ horizontal.0 in
-          let a1 = ltb-true _ _ horizontal.1 in
-          let b0 = leb-true _ _ vertical.0 in
-          let b1 = ltb-true _ _ vertical.1 in
-          ap (λ v. cond ((leb x p && ltb p (x + w)) && (leb y q && ltb q (y + h))) v old) (e (p - x) (q - y) (omega arith) (omega arith))
-      at p q old (inr t) = cond-false _ (f (p - x) (q - y)) old t ∙ sym (cond-false _ (g (p - x) (q - y)) old t)
-
   -- a patch painted over
   pub painted_over : (w h W H : ℕ) (f : ℕ → ℕ → Float → Float) (g : Patch) → w ≤ W → h ≤ H
       → painted s (patch x y W H (λ i j _. g i j)) (painted s (patch x y w h f) xs) ≡ painted s (patch x y W H (λ i j _. g i j)) xs
@@ -173,3 +159,33 @@ module _ (m : Maps) (lf : Plane Float) (v : Varblock) (s : Shape) (xs : List Flo
 
   pub rebuilt_done : (w h : ℕ) → w ≡ W → h ≡ H → Stated w h
   rebuilt_done w h p q = subst (λ w. Stated w h) (sym p) (subst (λ h. Stated W h) (sym q) rest)
+
+-- the same of a grid that the four steps were done on
+pub work_done : (m : Maps) (lf : Plane Float) (b : Block) (a : Area) (c0 c1 c2 c3 c4 : Canvas Float) → a ≡ corner_of b
+    → 8 * b.varblock.x + 8 * b.size.width ≤ c0.shape.width → 8 * b.varblock.y + 8 * b.size.height ≤ c0.shape.height
+    → Drawn c0 c1 (painted c0.shape (patch a.x a.y a.width a.height (lf_at lf b.varblock.x b.varblock.y)) c0.list.now)
+    → Drawn c1 c2
+    (cond (ltb 1 (b.size.width * b.size.height)) (imaged c1.shape (corner_of b) (m.fwd b.size.width b.size.height) c1.list.now) c1.list.now)
+    → Drawn c2 c3 (painted c2.shape (patch a.x a.y a.width a.height (divided b.size.width b.size.height)) c2.list.now)
+    → Drawn c3 c4 (imaged c3.shape (area_of b) (m.inv b.varblock.kind) c3.list.now)
+    → Drawn c0 c4 (one_block c0.shape (rebuilding m lf) b.varblock c0.list.now)
+work_done m lf b a c0 c1 c2 c3 c4 e across down d1 d2 d3 d4 =
+    let w = b.size.width in
+    let h = b.size.height in
+    let two = d2.shape ∙ d1.shape in
+    let three = d3.shape ∙ two in
+    record {
+      same = d4.same ∙ d3.same ∙ d2.same ∙ d1.same;
+      shape = d4.shape ∙ three;
+      list =
+          rebuilt_done m lf b.varblock c0.shape c0.list.now c0.lawful w h
+          (sym (wide_is b.varblock.kind b.size b.carried)) (sym (high_is b.varblock.kind b.size b.carried)) across down
+          c1.list.now c2.list.now c3.list.now c4.list.now
+          (d1.list
+          ∙ ap (λ (a : Area). painted c0.shape (patch a.x a.y a.width a.height (lf_at lf b.varblock.x b.varblock.y)) c0.list.now) e)
+          (d2.list ∙ ap (λ s. cond (ltb 1 (w * h)) (imaged s (corner_of b) (m.fwd w h) c1.list.now) c1.list.now) d1.shape)
+          (d3.list
+          ∙ ap (λ (a : Area). painted c2.shape (patch a.x a.y a.width a.height (divided w h)) c2.list.now) e
+          ∙ ap (λ s. painted s (patch (8 * b.varblock.x) (8 * b.varblock.y) w h (divided w h)) c2.list.now) two)
+          (d4.list ∙ ap (λ s. imaged s (area_of b) (m.inv b.varblock.kind) c3.list.now) three);
+    }

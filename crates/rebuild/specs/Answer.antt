@@ -1,6 +1,6 @@
 -- What rebuild answers: the rows of the table in their order, and the number of leads.
 use Rattle.std.specs.Prelude.{ℕ, ◌*◌, Bool, ◌&&◌, ◌||◌, length, Ok, ◌==◌, nat_le, Float}
-use Rattle.grid.specs.declared.brush.Xyb.{Xyb}
+use Rattle.grid.specs.declared.xyb.Xyb.{Xyb}
 use Rattle.grid.specs.Plane.{Plane, fitting}
 use Rattle.refusal.specs.declared.Reason.TheVariants as reason
 use Rattle.refusal.specs.Verdicts.{Verdict, Answer, demand, and_then}
@@ -9,7 +9,7 @@ use Rattle.varmap.specs.Cells.{cells}
 use Rattle.varmap.specs.Map.{map_checked}
 use Rattle.frame.specs.declared.stages.Stage.{Stage}
 use Rattle.frame.specs.Stages.{stage_number}
-use Rattle.channels.specs.Channels.{all_fit}
+use Rattle.grid.specs.Channels.{all_fit}
 use Rattle.blocks.specs.Leads.{leads}
 
 abbrev pub rebuild_turn : Stage → Bool

@@ -8,7 +8,7 @@ use Rattle.floats.specs.Arith.{over}
 use Rattle.dct_2d.specs.Plane.{Patch}
 use Rattle.varmap.specs.declared.cells.Cell.{Cell}
 use Rattle.varmap.specs.Cells.{cells}
-use Rattle.varmap.specs.Map.{LawfulMap}
+use Rattle.varmap.specs.declared.map.Map.{Map}
 use Rattle.blocks.specs.declared.leads.Varblock.{Varblock}
 use Rattle.blocks.specs.Blocks.{Image, by_blocks}
 use Rattle.kernel.specs.Maps.{Maps}
@@ -33,20 +33,17 @@ lf_at lf x y i j old = sample lf (x + i) (y + j)
 abbrev pub divided : ℕ → ℕ → ℕ → ℕ → Float → Float
 divided w h i j old = over old (divisor w h i j)
 
+-- when a varblock can be rebuilt: the LF samples of its cells are there, and scratch is long enough
 pub record Ready (lf : Plane Float) (room : ℕ) (v : Varblock) : Type 0 where
-  pub lawful : Lawful lf.shape (length lf.list)
   pub across : v.x + wide v.kind ≤ lf.shape.width
   pub down : v.y + high v.kind ≤ lf.shape.height
   pub enough : 512 ≤ room
 
 -- a channel that can be rebuilt: its samples, its LF samples and the map fit each other
-pub record Rebuildable (map : Plane Cell) (lf samples : Plane Float) (room : ℕ) : Type 0 where
-  pub map_grid : Lawful map.shape (length map.list)
-  pub map_cells : LawfulMap map.shape.width map.shape.height (cells map.shape map.list)
-  pub sample_grid : Lawful samples.shape (length samples.list)
-  pub width : samples.shape.width ≡ 8 * map.shape.width
-  pub height : samples.shape.height ≡ 8 * map.shape.height
-  pub lf_grid : Lawful lf.shape (length lf.list)
-  pub lf_width : lf.shape.width ≡ map.shape.width
-  pub lf_height : lf.shape.height ≡ map.shape.height
+pub record Rebuildable (map : Map) (lf samples : Plane Float) (room : ℕ) : Type 0 where
+  pub lawful : Lawful samples.shape (length samples.list)
+  pub width : samples.shape.width ≡ 8 * map.grid.shape.width
+  pub height : samples.shape.height ≡ 8 * map.grid.shape.height
+  pub lf_width : lf.shape.width ≡ map.grid.shape.width
+  pub lf_height : lf.shape.height ≡ map.grid.shape.height
   pub enough : 512 ≤ room

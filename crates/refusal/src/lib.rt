@@ -2,7 +2,7 @@
 
 #![tactic(auto)]
 
-ghost use Rattle.std.specs.Prelude.{◌≡◌};
+ghost use Rattle.std.specs.Prelude.{◌≡◌, Some};
 ghost use Rattle.refusal.specs.Reasons.{number_of, name_of};
 ghost use Rattle.refusal.specs.Verdicts.{refusal, demand};
 
@@ -25,6 +25,7 @@ pub enum Reason {
 
 impl Reason {
     /// The number that the host knows the reason by.
+    // a method and no `From`: its name says which number
     pub fn number(self) -> u32
         ensures { result ≡ number_of self }
     {
@@ -50,9 +51,20 @@ impl Reason {
     }
 }
 
+/// The reason's name.
+impl fmt::Display for Reason {
+    ghost output = { λ why. Some (name_of why) };
+
+    fn fmt<W: fmt::Write>(&self, f: &mut fmt::Formatter<W>) -> fmt::Result {
+        let name = self.name();
+        write!(f, "{name}")
+    }
+}
+
 /// Where a call found what it refuses; all zero where no place is named.
 #[derive(Clone, Copy, PartialEq, Eq, Debug)]
 pub struct Place {
+    // a number, as a host reads it
     pub channel: usize,
     pub x: usize,
     pub y: usize,
@@ -77,23 +89,33 @@ impl Refusal {
     }
 }
 
+/// A refusal that names no place.
+impl From<Reason> for Refusal {
+    ghost from_gives = { λ why r. r ≡ refusal why 0 0 0 };
+
+    fn from(reason: Reason) -> Refusal {
+        Refusal::at(reason, 0, 0, 0)
+    }
+}
+
 /// As `7 TAKEN at 0 3 3`: number, name, channel, x, y.
 impl fmt::Display for Refusal {
     fn fmt<W: fmt::Write>(&self, f: &mut fmt::Formatter<W>) -> fmt::Result {
-        let number = self.reason.number();
-        let name = self.reason.name();
+        let reason = self.reason;
+        let number = reason.number();
         let Place { channel, x, y } = self.place;
-        write!(f, "{number} {name} at {channel} {x} {y}")
+        write!(f, "{number} {reason} at {channel} {x} {y}")
     }
 }
 
 /// One row of the table of refusals, where the row names no place: refuses unless `ok`.
+// `ok` is the test of the row, and no flag
 pub fn require(ok: bool, reason: Reason) -> Result<(), Refusal>
     ensures { result ≡ demand ok reason }
 {
     if ok {
         Ok(())
     } else {
-        Err(Refusal::at(reason, 0, 0, 0))
+        Err(Refusal::from(reason))
     }
 }

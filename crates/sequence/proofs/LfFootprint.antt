@@ -1,14 +1,15 @@
 -- The footprints of the stages on LF samples: which numbers an LF sample depends on.
-use Rattle.std.proofs.Common.{◌≡◌, ℕ, ◌+◌, ◌-◌, ◌<◌, ◌≤◌, true, false, ◌&&◌, ltb, leb, ◌⊎◌, ℤ, sym, ap, ◌∙◌, inl, inr, arith}
+use Rattle.std.proofs.Common.{◌≡◌, ℕ, ◌+◌, ◌-◌, ◌<◌, ◌≤◌, true, false, ◌⊎◌, ℤ, sym, ap, ◌∙◌, inl, inr, arith}
 use lib.Ieee.{Float, nan, binary32, add, mul, of_int}
-use Rattle.std.proofs.lemmas.Bool.{cases_Bool, cond-true, cond-false, and_parts, leb-true, ltb-true}
-use Rattle.grid.specs.declared.brush.Xyb.{Xyb}
+use Rattle.std.proofs.lemmas.Bool.{cases_Bool, cond-true, cond-false}
+use Rattle.grid.specs.declared.xyb.Xyb.{Xyb}
 use Rattle.grid.specs.Plane.{Plane, fitting, sample, numeral}
 use Rattle.grid.proofs.Laws.{painted_in}
 use Rattle.channels.proofs.Fitting.{fits_lawful, fits_inside}
 use Rattle.lf.specs.Dequantise.{dequantised, lf_dequantised}
 use Rattle.lf.specs.Correlate.{correlated, lf_correlated}
 use Rattle.lf.specs.Smooth.{change, share_of, share, smoothed, inner, within_border, lf_smoothed}
+use Rattle.lf.proofs.Smoothing.{Inner, inner_true}
 use Rattle.sequence.specs.Runs.{holding}
 
 -- LF dequantise: on the LF number at its own place
@@ -35,20 +36,6 @@ lf_correlate_footprint w h k luma luma' p q fp fq x y a b own same =
 abbrev pub SameAround : ℕ → ℕ → ℕ → ℕ → Plane Float → Plane Float → Type 0
 SameAround w h x y p q =
     (i j : ℕ) → i < w → j < h → i ≤ x + 1 → x ≤ i + 1 → j ≤ y + 1 → y ≤ j + 1 → sample p i j ≡ sample q i j
-
--- (x, y) within the border
-record Inner (w h x y : ℕ) : Type 0 where
-  left : 1 ≤ x
-  right : x + 1 < w
-  top : 1 ≤ y
-  bottom : y + 1 < h
-
-inner_true : (w h x y : ℕ) → inner w h x y ≡ true → Inner w h x y
-inner_true w h x y e =
-    let p = and_parts (leb 1 x && ltb (x + 1) w) (leb 1 y && ltb (y + 1) h) e in
-    let horizontal = and_parts (leb 1 x) (ltb (x + 1) w) p.0 in
-    let vertical = and_parts (leb 1 y) (ltb (y + 1) h) p.1 in
-    record { left = leb-true _ _ horizontal.0; right = ltb-true _ _ horizontal.1; top = leb-true _ _ vertical.0; bottom = ltb-true _ _ vertical.1 }
 
 change_same : (w h x y : ℕ) (p q : Plane Float) → Inner w h x y → SameAround w h x y p q → change p x y ≡ change q x y
 change_same w h x y p q k e =

@@ -19,6 +19,7 @@ use Rattle.weights.specs.Weights.{Table}
 use Rattle.hf_block.specs.declared.work.Scales.{Scales}
 use Rattle.hf_block.specs.Dequantised.{dequantising, hf_dequantised}
 use Rattle.hf_block.proofs.Footprint.{hf_footprint}
+use Rattle.channels.proofs.Fitting.{fits_inside}
 use Rattle.hf_correlate.specs.Correlated.{hf_correlated_at, hf_correlated}
 use Rattle.hf_correlate.proofs.Footprint.{hf_correlate_footprint}
 use Rattle.kernel.specs.Maps.{Maps}
@@ -26,7 +27,7 @@ use Rattle.rebuild.specs.Rebuilt.{rebuilding, rebuilt}
 use Rattle.rebuild.specs.Facts.{Fitting}
 use Rattle.rebuild.proofs.Facts.{footprint}
 use Rattle.sequence.specs.Runs.{holding}
-use Rattle.sequence.proofs.SameBut.{SameBut, painted_alike_beyond, within, inside_of}
+use Rattle.sequence.proofs.SameBut.{SameBut, painted_alike_beyond, within}
 
 -- HF dequantise: samples differ only where they did before, or where the coefficients do
 pub hf_dequantise_but : (E : ℕ → ℕ → Type 0) (w8 h8 : ℕ) (map : Plane Cell) (n n' : Plane ℤ) (t : Table) (by : Scales) (p q : Plane Float)
@@ -72,7 +73,7 @@ hf_correlate_but E w8 h8 luma luma' tiles base colour p q fp fq fl s t =
           (λ (there : sample luma x y ≡ sample luma' x y).
           inl (hf_correlate_footprint w8 h8 luma luma' tiles tiles base colour p q fp fq x y c.0 c.1 own there refl))
           (λ d. inr d)
-          (t.inside x y (inside_of (8 * w8) (8 * h8) luma fl x y c.0 c.1)))
+          (t.inside x y (fits_inside (8 * w8) (8 * h8) luma fl x y c.0 c.1)))
           (λ d. inr d)
           (s.inside x y i);
     }

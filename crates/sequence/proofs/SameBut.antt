@@ -3,12 +3,13 @@ use Rattle.std.proofs.Common.{◌≡◌, ℕ, ◌+◌, ◌-◌, ◌<◌, ◌≤�
 use lib.Ieee.{Float, nan}
 use Rattle.std.proofs.lemmas.Bool.{cases_Bool, cases_eq, true≢false}
 use Rattle.grid.specs.declared.Shape.{Shape}
-use Rattle.grid.specs.declared.brush.Xyb.{Xyb}
+use Rattle.grid.specs.declared.xyb.Xyb.{Xyb}
 use Rattle.grid.specs.Index.{index, Inside}
 use Rattle.grid.specs.Painted.{painted}
 use Rattle.grid.specs.Plane.{Plane, fitting, sample, numeral}
 use Rattle.grid.proofs.Laws.{length_painted, painted_out}
 use Rattle.grid.proofs.Sized.{sized_true}
+use Rattle.channels.proofs.Fitting.{fits_inside}
 use Rattle.lf.specs.Dequantise.{dequantised, lf_dequantised}
 use Rattle.lf.specs.Correlate.{correlated, lf_correlated}
 use Rattle.lf.specs.Smooth.{smoothed, within_border, lf_smoothed}
@@ -51,11 +52,6 @@ within w h p f x y k =
     let b = k.down in
     (omega (arith, z.width), omega (arith, z.height))
 
-pub inside_of : (w h : ℕ) (p : Plane Float) → fitting w h p ≡ true → (x y : ℕ) → x < w → y < h → Inside p.shape x y
-inside_of w h p f x y a b =
-    let z = sized_true w h p.shape (length p.list) f in
-    record { across = omega (arith, z.width); down = omega (arith, z.height) }
-
 -- LF dequantise: the samples differ only where the LF numbers do
 pub lf_dequantise_but : (E : ℕ → ℕ → Type 0) (w h : ℕ) (n n' : Plane ℤ) (scale : Float) (p q : Plane Float)
     → fitting w h p ≡ true → fitting w h q ≡ true → AlikeBeyond p q
@@ -86,7 +82,7 @@ lf_correlate_but E w h k luma luma' p q fp fq fl s t =
           ⊎_elim
           (λ (there : sample luma x y ≡ sample luma' x y). inl (lf_correlate_footprint w h k luma luma' p q fp fq x y c.0 c.1 own there))
           (λ there. inr there)
-          (t.inside x y (inside_of w h luma fl x y c.0 c.1)))
+          (t.inside x y (fits_inside w h luma fl x y c.0 c.1)))
           (λ own. inr own)
           (s.inside x y i);
     }
@@ -147,4 +143,4 @@ lf_smooth_but D w h lf lf' steps p q fx fy fb fp fq sx sy sb s =
         → (a b : Plane Float) → fitting w h a ≡ true → SameBut (λ x y. D x y ≡ true) a b → SameAround w h x y a b
     there x y clear a b f t i j p q e g u v =
         ⊎_elim (λ (same : sample a i j ≡ sample b i j). same) (λ d. absurd (true≢false (sym d ∙ clear j u v i e g)))
-        (t.inside i j (inside_of w h a f i j p q))
+        (t.inside i j (fits_inside w h a f i j p q))

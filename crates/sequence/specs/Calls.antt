@@ -1,13 +1,13 @@
 -- A call by value, with all that it is given but the frame and what earlier calls wrote; and what a frame and its lent memory hold.
 use Rattle.std.specs.Prelude.{ℕ, ℤ, Float}
-use Rattle.grid.specs.declared.brush.Xyb.{Xyb}
+use Rattle.grid.specs.declared.xyb.Xyb.{Xyb}
 use Rattle.grid.specs.Plane.{Plane}
 use Rattle.varmap.specs.declared.cells.Cell.{Cell}
 use Rattle.frame.specs.declared.stages.Stage.{Stage}
 use Rattle.lf.specs.declared.correlate.Correlation.{Correlation}
 use Rattle.weights.specs.Weights.{Table}
-use Rattle.hf.specs.declared.checks.Quantiser.{Quantiser}
-use Rattle.hf_correlate.specs.declared.correlate.Correlation as hf
+use Rattle.hf.specs.declared.quantiser.Quantiser.{Quantiser}
+use Rattle.channels.specs.declared.correlation.Correlation as hf
 
 -- `Deed`: a call by value
 pub data Deed : Type 0 where

@@ -1,6 +1,6 @@
 -- What calls answer and leave, one after the other.
 use Rattle.std.specs.Prelude.{List, [], ◌∷◌, ◌++◌, Ok, Err, Float}
-use Rattle.grid.specs.declared.brush.Xyb.{Xyb}
+use Rattle.grid.specs.declared.xyb.Xyb.{Xyb}
 use Rattle.grid.specs.Plane.{Plane}
 use Rattle.refusal.specs.Verdicts.{Answer}
 use Rattle.varmap.specs.declared.cells.Cell.{Cell}

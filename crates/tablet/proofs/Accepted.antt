@@ -1,6 +1,6 @@
 -- The blocks that are accepted, by computed tests of each kind below 24.
-use Rattle.std.proofs.Common.{◌≡◌, ℕ, ◌*◌, ◌<◌, ◌≤◌, Bool, true, false, cond, ◌&&◌, ◌||◌, eqb, ltb, leb, ◌≢◌, ◌⊎◌, Some, None, sym, refl, ap, ◌∙◌, subst, ap₂, inl, inr, arith, lit≤}
-use Rattle.std.proofs.lemmas.Bool.{cases_eq, cases_Bool, and_parts, eqb-true, leb-true, ltb-true, lt-ltb, cond-true, cond-false}
+use Rattle.std.proofs.Common.{◌≡◌, ℕ, ◌*◌, ◌<◌, ◌≤◌, Bool, true, false, cond, ◌&&◌, ◌||◌, eqb, ltb, leb, ◌≢◌, ◌⊎◌, Some, None, sym, refl, ap, ◌∙◌, subst, ap₂, inl, inr, arith}
+use Rattle.std.proofs.lemmas.Bool.{cases_eq, cases_Bool, and_parts, and_from, eqb-true, leb-true, le-leb, ltb-true, lt-ltb, cond-true, cond-false}
 use Rattle.std.proofs.lemmas.Bool.Decides.{nat_tests}
 use Rattle.grid.specs.declared.Shape.{Shape}
 use Rattle.grid.specs.Index.{sized, lawful}
@@ -9,7 +9,7 @@ use Rattle.kinds.specs.Kinds.{size_of, found, wide, high, width_of}
 use Rattle.kinds.proofs.Sizes.{wide_is, high_is}
 use Rattle.transform.specs.Maps.{single}
 use Rattle.transform.specs.Tests.{inverts}
-use Rattle.transform.specs.Sides.{all_below, by_test}
+use Rattle.transform.specs.Sides.{all_below, by_test, carried_sides}
 use Rattle.tablet.specs.Block.{accepted, block_bytes, rows}
 
 -- how many numbers a block has
@@ -85,56 +85,31 @@ last_length k n e q a b c d f g i j =
 abbrev pub shape : ℕ → ℕ → Shape
 shape w h = record { width = 8 * w; height = 8 * h; stride = 8 * w }
 
-pub record Shaped (k : ℕ) (s : Shape) : Type 0 where
-  pub accepted : accepted k ≡ true → s ≡ rows k
-  pub size : 4 * (s.width * s.height) ≡ block_bytes k
-  pub few : s.width * s.height ≤ 16384
+pub small_accepted : (k : ℕ) (z : Size) → size_of k ≡ Some z → ltb k 24 ≡ true → accepted k ≡ true
+small_accepted k z e l =
+    let a : 1 ≤ wide k = omega (arith, (carried_sides k z e).wide_some) in
+    and_from _ _ l (le-leb _ _ a)
 
-pub shape_is : (k : ℕ) (z : Size) → size_of k ≡ Some z → ltb k 24 ≡ true → Shaped k (shape z.width z.height)
-shape_is k z e l =
-    let t = sizes k (ltb-true k 24 l) in
-    let q : rows k ≡ shape z.width z.height = ap₂ shape (wide_is k z e) (high_is k z e) in
-    subst (Shaped k) q (record { accepted = λ _. refl; size = t.0; few = t.1 })
+pub rows_are : (k : ℕ) (z : Size) → size_of k ≡ Some z → shape z.width z.height ≡ rows k
+rows_are k z e = sym (ap₂ shape (wide_is k z e) (high_is k z e))
 
-none_shape : (k : ℕ) → accepted k ≡ false → block_bytes k ≡ 0 → Shaped k (record { width = 0; height = 0; stride = 0 })
-none_shape k f z = record { accepted = λ t. let w : true ≡ false = sym t ∙ f in let n : ◌≡◌ {A = ℕ} 0 1 = cc in absurd (omega arith); size = sym z; few = lit≤ tt }
-
-pub none_is : (k : ℕ) → size_of k ≡ None → Shaped k (record { width = 0; height = 0; stride = 0 })
+pub none_accepted : (k : ℕ) → size_of k ≡ None → accepted k ≡ false
 unfolding wide
-none_is k e =
-    let w : wide k ≡ 0 = ap width_of e in
-    none_shape k (grind (arith, nat_tests)) (bytes (ltb k 24) (high k) w)
-  where
-    bytes : (b : Bool) (h : ℕ) → wide k ≡ 0 → cond b (256 * (wide k * h)) 0 ≡ 0
-    bytes true h w = ap (λ (n : ℕ). 256 * (n * h)) w ∙ ap (λ (n : ℕ). 256 * n) (native.Mathlib.Nat.zero-mul h)
-    bytes false h w = refl
+none_accepted k e = let w : wide k ≡ 0 = ap width_of e in grind (arith, nat_tests)
 
-pub large_is : (k : ℕ) → ltb k 24 ≡ false → Shaped k (record { width = 0; height = 0; stride = 0 })
-large_is k l = none_shape k (grind (arith, nat_tests)) (cond-false (ltb k 24) _ 0 l)
+-- how many numbers and bytes it has
+pub few_numbers : (k : ℕ) (s : Shape) → accepted k ≡ true → s ≡ rows k → s.width * s.height ≤ 16384
+few_numbers k s e q = subst (λ (t : Shape). t.width * t.height ≤ 16384) (sym q) (sizes k (accepted_parts k e).0).1
 
--- without bytes no block is accepted
-pub no_bytes : (k : ℕ) → block_bytes k ≡ 0 → accepted k ≡ false
-no_bytes k z = go (cases_Bool (accepted k))
-  where
-    go : (accepted k ≡ true) ⊎ (accepted k ≡ false) → accepted k ≡ false
-    go (inl t) =
-        let s : listed 0 ≡ true = subst (λ (n : ℕ). listed n ≡ true) z (sound k t).lengths in
-        let w : false ≡ true = s in
-        let n : ◌≡◌ {A = ℕ} 0 1 = cc in
-        absurd (omega arith)
-    go (inr f) = f
+pub all_bytes : (k : ℕ) (s : Shape) → accepted k ≡ true → s ≡ rows k → 4 * (s.width * s.height) ≡ block_bytes k
+all_bytes k s e q = ap (λ (t : Shape). 4 * (t.width * t.height)) q ∙ (sizes k (accepted_parts k e).0).0
 
-pub some_bytes : (k n : ℕ) → n ≡ block_bytes k → n ≢ 0 → accepted k ≡ true
-some_bytes k n e ne = go (cases_Bool (accepted k))
-  where
-    past : accepted k ≡ false → block_bytes k ≡ 0
-    past f = elim (cases_Bool (ltb k 24)) [
+-- without a block there are no bytes
+pub refused_bytes : (k : ℕ) → accepted k ≡ false → block_bytes k ≡ 0
+refused_bytes k f =
+    elim (cases_Bool (ltb k 24)) [
       | inr a ↦ cond-false (ltb k 24) _ 0 a
       | inl a ↦
           let w : wide k ≡ 0 = grind (arith, nat_tests) in
           cond-true (ltb k 24) (256 * (wide k * high k)) 0 a ∙ ap (λ (n : ℕ). 256 * (n * high k)) w ∙ ap (λ (n : ℕ). 256 * n) (native.Mathlib.Nat.zero-mul (high k))
     ]
-
-    go : (accepted k ≡ true) ⊎ (accepted k ≡ false) → accepted k ≡ true
-    go (inl t) = t
-    go (inr f) = absurd (ne (e ∙ past f))

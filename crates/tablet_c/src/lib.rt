@@ -20,5 +20,8 @@ pub extern "C" fn vardct_inverse(kind: u32, bytes: &mut [u8]) -> u32
     ensures answer { result ≡ answer kind (length bytes.old) }
     ensures bytes { bytes.new ≡ written kind bytes.old }
 {
-    tablet::vardct_inverse(kind, bytes)
+    match tablet::vardct_inverse(kind, bytes) {
+        Ok(()) => 0,
+        Err(reason) => reason.number(),
+    }
 }

@@ -1,6 +1,7 @@
 //! The mean kernel, for thumbnails.
 
 ghost use Rattle.std.specs.Prelude.{◌≡◌, length};
+ghost use Rattle.grid.specs.Drawn.{Drawn};
 ghost use Rattle.grid.specs.Index.{Lawful};
 ghost use Rattle.grid.specs.Window.{elements};
 ghost use Rattle.dct_2d.specs.Replaced.{poured};
@@ -8,7 +9,7 @@ ghost use Rattle.transform.specs.Maps.{forward as forward_map, level as level_of
 ghost use Rattle.transform.specs.Flats.{mean_flat};
 
 use crate::patches::{forward_dct, is_block};
-use grid::{Shape, Solid, paint, read};
+use grid::{Canvas, Shape, Solid};
 use kernel::Kernel;
 
 /// Its inverse gives every sample the corner's first number.
@@ -16,19 +17,19 @@ use kernel::Kernel;
 pub struct Mean;
 
 /// The number at (0, 0).
-fn first(list: &[f32], shape: Shape) -> f32
-    requires { Lawful shape (length list.now) }
-    ensures { result ≡ elements shape list.now 0 0 }
+#[tactic(auto, using(dct_2d::proofs::Paintings::element_in))]
+fn first(canvas: &Canvas<f32>) -> f32
+    ensures { result ≡ elements canvas.now.shape canvas.now.list.now 0 0 }
 {
-    read(list, shape, 0, 0)
+    canvas.get(0, 0)
 }
 
 /// Each number of a grid becomes `value`.
-fn level(list: &mut [f32], shape: Shape, value: f32)
-    requires { Lawful shape (length list.old) }
-    ensures { list.new ≡ poured (level_of value) shape list.old }
+#[tactic(auto, unfolding(dct_2d::specs::Replaced::poured))]
+fn level(canvas: &mut Canvas<f32>, value: f32)
+    ensures { Drawn canvas.old canvas.new (poured (level_of value) canvas.old.shape canvas.old.list.now) }
 {
-    paint(list, shape, shape.area(), &Solid { value });
+    canvas.paint_all(&Solid { value });
 }
 
 /// Each number of a grid becomes the first.
@@ -36,8 +37,9 @@ fn spread(list: &mut [f32], shape: Shape)
     requires { Lawful shape (length list.old) }
     ensures { list.new ≡ poured (level_of (elements shape list.old 0 0)) shape list.old }
 {
-    let value = first(list, shape);
-    level(list, shape, value);
+    let canvas = &mut Canvas { list, shape };
+    let value = first(canvas);
+    level(canvas, value);
 }
 
 impl Kernel for Mean {

@@ -1,7 +1,6 @@
 //! When the calls work, and the forward call.
 
 ghost use Rattle.std.specs.Prelude.{◌≡◌, length};
-ghost use Rattle.grid.specs.Index.{sized};
 ghost use Rattle.kernel.specs.Maps.{forwarded, side};
 ghost use Rattle.transform.specs.Maps.{forward};
 ghost use Rattle.transform.specs.Tests.{forwards, inverts};
@@ -15,7 +14,7 @@ use kinds::kind_size;
 fn is_side(n: usize) -> bool
     ensures { result ≡ side n }
 {
-    (n == 1) | (n == 2) | (n == 4) | (n == 8) | (n == 16) | (n == 32)
+    matches!(n, 1 | 2 | 4 | 8 | 16 | 32)
 }
 
 /// Whether a forward call works.
@@ -35,20 +34,13 @@ pub fn forward_dct(list: &mut [f32], shape: Shape, scratch: &mut [f32])
     }
 }
 
-/// Whether a list of `len` numbers holds a grid of w × h.
-fn is_grid(shape: Shape, len: usize, w: usize, h: usize) -> bool
-    ensures { result ≡ sized w h shape len }
-{
-    let lawful = shape.is_lawful(len);
-    (shape.width == w) & (shape.height == h) & lawful
-}
-
 /// Whether an inverse call works.
+// any number, so that one that is not carried can be passed
 pub fn is_block(kind: u32, shape: Shape, len: usize, room: usize) -> bool
     ensures { result ≡ inverts kind shape len room }
 {
     match kind_size(kind) {
-        Some(size) => is_grid(shape, len, 8 * size.width, 8 * size.height) & (room >= 512),
+        Some(size) => shape.is_sized(8 * size.width, 8 * size.height, len) & (room >= 512),
         None => false,
     }
 }

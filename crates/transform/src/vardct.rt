@@ -15,7 +15,7 @@ use cells::{
 };
 use dct::DctDirection;
 use dct_2d::dct_2d;
-use grid::Shape;
+use grid::{Canvas, Shape};
 use kernel::Kernel;
 
 /// Forward is the DCT; inverse is the transform of the kind.
@@ -23,6 +23,7 @@ use kernel::Kernel;
 pub struct Vardct;
 
 /// The inverse of a cell, by its kind.
+// a kind is a number, and a match over ranges with guards picks its inverse, by a rule of the project
 pub fn transform_cell(kind: u32, coeff: &mut [f32; 64])
     ensures { cell coeff.new ≡ cell_inverse kind (cell coeff.old) }
 {
@@ -43,9 +44,10 @@ fn transform_single(kind: u32, list: &mut [f32], shape: Shape)
     requires lawful { Lawful shape (length list.old) }
     ensures { list.new ≡ replaced (cell_inverse kind) shape list.old }
 {
-    let mut coeff = load(list, shape);
+    let canvas = &mut Canvas { list, shape };
+    let mut coeff = load(canvas.raster());
     transform_cell(kind, &mut coeff);
-    store(&coeff, list, shape);
+    store(&coeff, canvas);
 }
 
 /// The inverse of a block, by its kind.

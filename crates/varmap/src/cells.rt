@@ -14,6 +14,7 @@ pub enum Record {
     /// No varblock lies here.
     Empty,
     /// The top left cell of a varblock.
+    // any number, since a host lends the map; its check refuses a kind that is not carried
     Lead { kind: u32, hf_mul: u32 },
     /// Another cell of a varblock, whose lead is `dx` cells left and `dy` cells up.
     Covered { dx: u32, dy: u32 },
@@ -27,9 +28,6 @@ impl Cell {
     pub fn is_empty(self) -> bool
         ensures { result ≡ is_empty self.holds }
     {
-        match self.holds {
-            Record::Empty => true,
-            _ => false,
-        }
+        matches!(self.holds, Record::Empty)
     }
 }

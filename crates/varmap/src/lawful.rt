@@ -1,13 +1,13 @@
 //! Whether a map is lawful.
 
-ghost use Rattle.std.specs.Prelude.{◌≡◌, ℕ, ◌+◌, ◌-◌, ◌*◌, ◌<◌, ◌≤◌, true, ◌&&◌, length};
-ghost use Rattle.grid.specs.Index.{Lawful, Inside, sized};
+ghost use Rattle.std.specs.Prelude.{◌≡◌, ℕ, ◌+◌, ◌-◌, ◌*◌, ◌<◌, ◌≤◌, ◌&&◌};
+ghost use Rattle.grid.specs.Index.{Inside};
 ghost use Rattle.kinds.specs.Kinds.{size_of};
 ghost use Rattle.varmap.specs.Cells.{cells};
 ghost use Rattle.varmap.specs.Map.{points_back, in_range, all_back, lead_of, covered_ok, cell_ok, map_checked};
 
 use crate::cells::{Cell, Record};
-use grid::View;
+use grid::Raster;
 use kinds::{Size, kind_size};
 use refusal::{Reason, Refusal};
 
@@ -23,12 +23,12 @@ fn is_back(cell: Cell, i: usize, j: usize) -> bool
 }
 
 /// Whether each cell of the rectangle but its first points back to (x, y).
-fn points_back(map: View<'_, Cell>, x: usize, y: usize, size: Size) -> bool
-    requires lawful { Lawful map.shape (length map.list.now) }
+fn points_back(map: Raster<'_, Cell>, x: usize, y: usize, size: Size) -> bool
     requires across { x + size.width ≤ map.shape.width }
     requires down { y + size.height ≤ map.shape.height }
     ensures { result ≡ all_back (cells map.entry.shape map.entry.list.now) x y size }
 {
+    // counted: a cell is asked how far it lies from its lead
     for j in 0..size.height {
         for i in 0..size.width {
             if !is_back(map.get(x + i, y + j), i, j) {
@@ -40,9 +40,8 @@ fn points_back(map: View<'_, Cell>, x: usize, y: usize, size: Size) -> bool
 }
 
 /// Whether a lead at (x, y) is lawful.
-fn lead_is_lawful(map: View<'_, Cell>, x: usize, y: usize, kind: u32, hf_mul: u32) -> bool
-    requires lawful { Lawful map.shape (length map.list.now) }
-    requires inside { Inside map.shape x y }
+fn lead_is_lawful(map: Raster<'_, Cell>, x: usize, y: usize, kind: u32, hf_mul: u32) -> bool
+    requires { Inside map.shape x y }
     ensures { result ≡ lead_of map.entry.shape.width map.entry.shape.height (cells map.entry.shape map.entry.list.now) x y hf_mul (size_of kind) }
 {
     match kind_size(kind) {
@@ -57,6 +56,7 @@ fn lead_is_lawful(map: View<'_, Cell>, x: usize, y: usize, kind: u32, hf_mul: u3
 }
 
 /// Whether a lead may have this multiplier.
+// a range of its own: the two bounds are the rule
 pub fn hf_mul_in_range(hf_mul: u32) -> bool
     ensures { result ≡ in_range hf_mul }
 {
@@ -64,9 +64,8 @@ pub fn hf_mul_in_range(hf_mul: u32) -> bool
 }
 
 /// Whether a cell at (x, y) that points back by (dx, dy) is lawful.
-fn covered_is_lawful(map: View<'_, Cell>, x: usize, y: usize, dx: usize, dy: usize) -> bool
-    requires lawful { Lawful map.shape (length map.list.now) }
-    requires inside { Inside map.shape x y }
+fn covered_is_lawful(map: Raster<'_, Cell>, x: usize, y: usize, dx: usize, dy: usize) -> bool
+    requires { Inside map.shape x y }
     ensures { result ≡ covered_ok (cells map.entry.shape map.entry.list.now) x y dx dy }
 {
     if dx > x || dy > y {
@@ -82,9 +81,8 @@ fn covered_is_lawful(map: View<'_, Cell>, x: usize, y: usize, dx: usize, dy: usi
 }
 
 /// Whether the cell (x, y) is lawful.
-fn cell_is_lawful(map: View<'_, Cell>, x: usize, y: usize) -> bool
-    requires lawful { Lawful map.shape (length map.list.now) }
-    requires inside { Inside map.shape x y }
+fn cell_is_lawful(map: Raster<'_, Cell>, x: usize, y: usize) -> bool
+    requires { Inside map.shape x y }
     ensures { result ≡ cell_ok map.entry.shape.width map.entry.shape.height (cells map.entry.shape map.entry.list.now) x y }
 {
     match map.get(x, y).holds {
@@ -94,14 +92,14 @@ fn cell_is_lawful(map: View<'_, Cell>, x: usize, y: usize) -> bool
     }
 }
 
-/// Refuses a map of w × h cells for its first unlawful cell in row order.
-pub fn check_map(map: View<'_, Cell>, w: usize, h: usize) -> Result<(), Refusal>
-    requires { sized w h map.shape (length map.list.now) ≡ true }
-    ensures { result ≡ map_checked w h (cells map.entry.shape map.entry.list.now) }
+/// Refuses a map for its first unlawful cell in row order.
+pub fn check_cells(map: Raster<'_, Cell>) -> Result<(), Refusal>
+    ensures { result ≡ map_checked map.entry.shape.width map.entry.shape.height (cells map.entry.shape map.entry.list.now) }
 {
+    // nested row and column loops, left by a label with the place: a rule of the project
     'search: {
-        for y in 0..h {
-            for x in 0..w {
+        for y in 0..map.shape.height {
+            for x in 0..map.shape.width {
                 if !cell_is_lawful(map, x, y) {
                     break 'search Err(Refusal::at(Reason::Map, 0, x, y));
                 }

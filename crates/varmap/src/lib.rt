@@ -4,6 +4,8 @@
 
 mod cells;
 mod lawful;
+mod map;
 
 pub use cells::{Cell, Record};
-pub use lawful::{check_map, hf_mul_in_range};
+pub use lawful::hf_mul_in_range;
+pub use map::Map;

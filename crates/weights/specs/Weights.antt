@@ -1,7 +1,7 @@
 -- The weights of a channel: a list, and where each kind's weights start in it.
-use Rattle.std.specs.Prelude.{ℕ, ◌+◌, ◌*◌, Bool, true, not, ◌&&◌, List, length, ◌==◌, nat_le, slice_index, slice_index_or, Float}
+use Rattle.std.specs.Prelude.{ℕ, ◌+◌, ◌*◌, Bool, true, not, cond, ◌&&◌, List, length, Some, None, Option, ◌==◌, nat_le, slice_index, slice_index_or, slice_range, Float}
 use Rattle.std.specs.Float.{float_is_finite, nan}
-use Rattle.grid.specs.declared.brush.Xyb.{Xyb}
+use Rattle.grid.specs.declared.xyb.Xyb.{Xyb}
 use Rattle.kinds.specs.Kinds.{wide, high}
 use Rattle.refusal.specs.declared.Refusal.{Refusal}
 use Rattle.refusal.specs.declared.Reason.TheVariants as reason
@@ -23,6 +23,18 @@ tables w = record { x = table w.x; y = table w.y; b = table w.b }
 
 abbrev pub start : Table → ℕ → ℕ
 start t kind = slice_index t.starts kind
+
+-- a start for each of the 27 kind numbers
+abbrev pub is_full : Table → Bool
+is_full t = length t.starts == 27
+
+-- where the weights of a kind start, if it has any
+abbrev pub start_of : Table → ℕ → Option ℕ
+start_of t kind = cond (start t kind == 4294967295) None (Some (start t kind))
+
+-- the weights of a kind, one for each sample of its block, row by row
+abbrev pub weights_of : Table → ℕ → List Float
+weights_of t kind = slice_range t.list (start t kind) (start t kind + 64 * (wide kind * high kind))
 
 -- the weight of the sample (i, j) of a block of this kind
 unfoldable pub weight : Table → ℕ → ℕ → ℕ → Float

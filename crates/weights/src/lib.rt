@@ -2,9 +2,14 @@
 
 #![tactic(auto)]
 
+ghost use Rattle.weights.specs.Weights.{table};
+ghost use Rattle.weights.specs.Kinds.{IsByKind};
+
+mod by_kind;
 mod finite;
 mod placed;
 
+pub use by_kind::ByKind;
 pub use finite::check_finite;
 pub use placed::check_placed;
 
@@ -13,4 +18,18 @@ pub use placed::check_placed;
 pub struct Weights<'a> {
     pub list: &'a [f32],
     pub starts: &'a [u32],
+}
+
+impl<'a> Weights<'a> {
+    /// The same, if there is a start for each kind number.
+    pub fn by_kind(self) -> Option<ByKind<'a>>
+        ensures { IsByKind (table self.entry) result }
+    {
+        let Weights { list, starts } = self;
+        if starts.len() == 27 {
+            Some(ByKind { list, starts })
+        } else {
+            None
+        }
+    }
 }

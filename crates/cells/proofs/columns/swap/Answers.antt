@@ -1,12 +1,9 @@
-use Rattle.std.proofs.Common.{ℕ, ◌+◌, ◌*◌, ◌/◌, ◌%◌, refl, arith}
+use Rattle.std.proofs.Common.{◌+◌, ◌*◌, ◌/◌, ◌%◌, rules}
+use lib.Ieee.{nan}
 use Rattle.dct.specs.Transform.{at}
-use Rattle.cells.proofs.Parts.{fill_more, swapped_is}
+use Rattle.cells.proofs.Made.{made_at}
+use Rattle.cells.proofs.Parts.{swapped_is}
 use Rattle.cells.proofs.columns.swap.Goals as goal
 
-pub loop-i-preserved : goal.loop-i-preserved
-loop-i-preserved c =
-    let f : ℕ → _ = λ k. at c.args.block.now ((4 * (k % 8 / 4) + k / 8 % 4) * 8 + (4 * (k / 8 / 4) + k % 8 % 4)) in
-    fill_more f c.loop-i.out c.loop-i.i 64 (f c.loop-i.i) c.loop-i.invariant.0 (omega arith) c.loop-i.invariant.1 refl
-
 pub returns : goal.returns
-returns c = swapped_is c.args.block.now c.loop-i.out (λ k h. c.loop-i.invariant.1 k (omega arith))
+returns c = swapped_is c.args.block.now _ (λ k h. made_at _ _ (λ k. at c.args.block.now ((4 * (k % 8 / 4) + k / 8 % 4) * 8 + (4 * (k / 8 / 4) + k % 8 % 4))) (λ i y q s. search rules) _ 64 c.from_fn.ensures.items k nan h)

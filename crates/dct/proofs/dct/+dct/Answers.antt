@@ -1,26 +1,28 @@
 -- The small lengths are their definitions. From 8 on: the halves have half the length, and the whole is made from them.
-use Rattle.std.proofs.Common.{◌≡◌, ℕ, suc, ◌^◌, length, sym, ap, ◌∙◌, subst, arith, length-take, pow_pos, rules}
+use Rattle.std.proofs.Common.{◌≡◌, ℕ, suc, ◌^◌, length, sym, ◌∙◌, subst, arith, pow_pos, rules}
 use Rattle.dct.specs.Transform.{dct_of, evens, odd_sums, joined, means, slopes, interleaved}
 use Rattle.floats.proofs.Powers.{pow_inj}
-use Rattle.dct.proofs.Halves.{large, secants_length, apart, one_of, two_forward, two_inverse, four_of, from_forward, from_inverse}
+use Rattle.dct.proofs.Halves.{large, factor_count, apart, one_of, two_forward, two_inverse, four_of, from_forward, from_inverse}
 use Rattle.dct.proofs.dct.+dct.Goals as goal
 use Rattle.dct.proofs.dct.+dct.Goals.{in-Forward-direction, in-Inverse-direction, in_default-via-then-io-lt4, in_default-via-else-io-lt4+else-io-lt5}
 
-pub fold-requires : goal.fold-requires
-fold-requires t c =
+pub fold-requires-clause-whole : goal.fold-requires-clause-whole
+fold-requires-clause-whole t c =
     let n = length c.args.io.now in
     let b = large n c.requires.sided (search rules) (search rules) (search rules) in
-    record {
-      whole = omega (arith, b.halves);
-      halves = simp length-take (omega (arith, b.halves));
-      factors = ap length (c.sec_half-sec.ensures.table (suc (suc (suc b.j))) (omega arith) b.bound b.whole) ∙ secants_length b.j b.bound ∙ omega (arith, b.halves);
-    }
+    omega (arith, b.halves)
 
-pub deal-requires : goal.deal-requires
-deal-requires t c =
+pub fold-requires-clause-factors : goal.fold-requires-clause-factors
+fold-requires-clause-factors t c =
     let n = length c.args.io.now in
     let b = large n c.requires.sided (search rules) (search rules) (search rules) in
-    record { whole = omega (arith, b.halves); halves = simp length-take (omega (arith, b.halves)) }
+    omega (arith, b.halves, factor_count b.j n c.sec_half-sec.result.now b.bound b.whole c.sec_half-sec.ensures.table)
+
+pub deal-requires-clause-whole : goal.deal-requires-clause-whole
+deal-requires-clause-whole t c =
+    let n = length c.args.io.now in
+    let b = large n c.requires.sided (search rules) (search rules) (search rules) in
+    omega (arith, b.halves)
 
 pub dct-requires : goal.dct-requires
 dct-requires t c =
@@ -34,17 +36,23 @@ dct-requires-in_default t c =
     let b = large n c.requires.sided (search rules) (search rules) (search rules) in
     (omega (arith, b.halves, pow_pos (suc (suc b.j))), ((suc (suc b.j), omega (arith, b.bound), omega (arith, b.halves)), omega (arith, b.halves)))
 
-pub weave-requires : goal.weave-requires
-weave-requires t c =
+pub weave-requires-clause-whole : goal.weave-requires-clause-whole
+weave-requires-clause-whole t c =
     let n = length c.args.io.now in
     let b = large n c.requires.sided (search rules) (search rules) (search rules) in
-    record { whole = omega (arith, b.halves); halves = omega (arith, b.halves) }
+    omega (arith, b.halves)
 
-pub join-requires : goal.join-requires
-join-requires t c =
+pub join-requires-clause-whole : goal.join-requires-clause-whole
+join-requires-clause-whole t c =
     let n = length c.args.io.now in
     let b = large n c.requires.sided (search rules) (search rules) (search rules) in
-    record { whole = omega (arith, b.halves); halves = omega (arith, b.halves); factors = ap length (c.sec_half-sec.ensures.table (suc (suc (suc b.j))) (omega arith) b.bound b.whole) ∙ secants_length b.j b.bound ∙ omega (arith, b.halves) }
+    omega (arith, b.halves)
+
+pub join-requires-clause-factors : goal.join-requires-clause-factors
+join-requires-clause-factors t c =
+    let n = length c.args.io.now in
+    let b = large n c.requires.sided (search rules) (search rules) (search rules) in
+    omega (arith, b.halves, factor_count b.j n c.sec_half-sec.result.now b.bound b.whole c.sec_half-sec.ensures.table)
 
 pub returns-in-empty : goal.returns-in-empty
 returns-in-empty t c k e = one_of c.args.direction c.args.io.now k (search rules) e

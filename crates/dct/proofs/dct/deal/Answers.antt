@@ -1,19 +1,9 @@
 -- A turn writes one more place of each half; after the last, each half is the list that its places say.
-use Rattle.std.proofs.Common.{◌*◌, length, refl, arith}
+use Rattle.std.proofs.Common.{◌*◌, length, arith}
 use lib.Ieee.{nan}
 use Rattle.std.proofs.lemmas.List.FromFn.{fill_by_all}
 use Rattle.dct.specs.Transform.{at, odd_sum}
-use Rattle.dct.proofs.Steps.{fill_more, odd_sum_is}
 use Rattle.dct.proofs.dct.deal.Goals as goal
-
-pub loop-i-preserved : goal.loop-i-preserved
-loop-i-preserved c =
-    let v = c.args.io.now in
-    let i = c.loop-i.i in (
-      fill_more (λ k. at v (2 * k)) c.loop-i.front i (at v (2 * i)) refl (omega arith) c.loop-i.invariant.0,
-      fill_more (odd_sum v) c.loop-i.back i c.odd_sum.result
-          (odd_sum_is v i c.odd_sum.result c.odd_sum.ensures.first c.odd_sum.ensures.later) (omega arith) c.loop-i.invariant.1,
-    )
 
 pub returns : goal.returns
 returns c =

@@ -5,4 +5,4 @@ use Rattle.dct.specs.Transform.{at}
 use Rattle.dct_2d.proofs.lines.gather.Given as goal
 
 abbrev pub invariant-loop-k : goal.invariant-loop-k
-invariant-loop-k l = (k : ℕ) → k < l.k → at l.line k ≡ read_line l.shape l.axis l.i l.list k
+invariant-loop-k l = (k : ℕ) → k < l.k → at l.line k ≡ read_line l.canvas.shape l.axis l.i l.canvas.list.now k

@@ -9,7 +9,7 @@ loop-k-init c x k hx hk = absurd (omega arith)
 
 pub loop-k-preserved : goal.loop-k-preserved
 loop-k-preserved c =
-    rows_more (λ x k. read_line c.args.shape Columns (c.args.x + x) c.args.list.now k) (read_row c.args.shape c.args.x c.loop-k.k c.args.list.now) c.loop-k.k c.loop-k.strip c.load_row.new.strip
+    rows_more (λ x k. read_line c.args.canvas.now.shape Columns (c.args.x + x) c.args.canvas.now.list.now k) (read_row c.args.canvas.now.shape c.args.x c.loop-k.k c.args.canvas.now.list.now) c.loop-k.k c.loop-k.strip c.load_row.new.strip
     c.load_row.ensures (λ x h. refl) c.loop-k.invariant
 
 pub returns : goal.returns

@@ -6,4 +6,4 @@ use Rattle.dct.specs.Strips.{lane}
 use Rattle.dct_2d.proofs.strips.load_columns.Given as goal
 
 abbrev pub invariant-loop-k : goal.invariant-loop-k
-invariant-loop-k l = (x k : ℕ) → x < 8 → k < l.k → lane l.strip x k ≡ read_line l.shape Columns (l.x + x) l.list k
+invariant-loop-k l = (x k : ℕ) → x < 8 → k < l.k → lane l.strip x k ≡ read_line l.canvas.shape Columns (l.x + x) l.canvas.list.now k

@@ -6,4 +6,4 @@ use Rattle.dct_2d.specs.Lines.{read_line}
 use Rattle.dct_2d.proofs.strips.load_line.Given as goal
 
 abbrev pub invariant-loop-i : goal.invariant-loop-i
-invariant-loop-i l = Laned l.x (l.i * 8) (read_line l.shape Rows l.y l.list) l.initial.strip l.strip
+invariant-loop-i l = Laned l.x (l.i * 8) (read_line l.canvas.shape Rows l.y l.canvas.list.now) l.initial.strip l.strip

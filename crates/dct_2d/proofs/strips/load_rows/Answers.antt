@@ -9,8 +9,8 @@ loop-x-init c x k hx hk = absurd (omega arith)
 
 pub loop-x-preserved : goal.loop-x-preserved
 loop-x-preserved c =
-    let s = c.args.shape in
-    let xs = c.args.list.now in
+    let s = c.args.canvas.now.shape in
+    let xs = c.args.canvas.now.list.now in
     let x = c.loop-x.x in
     lines_done s.width (λ z. read_line s Rows (c.args.y + z) xs) x (read_line s Rows (c.args.y + x) xs) c.loop-x.strip c.load_line.new.strip
     (λ k h. refl) c.load_line.ensures (omega arith) c.loop-x.invariant

@@ -11,8 +11,8 @@ overflow_mul-size-in-Some c = let b = (size_bounded c.args.kind c.in-Some.size (
 
 pub returns-in-Some : goal.returns-in-Some
 returns-in-Some c =
-    found_inverts c.args.kind c.in-Some.size c.args.shape c.args.len c.args.room c.is_grid.result
-    (sym c.in-Some.ensures) c.is_grid.ensures
+    found_inverts c.args.kind c.in-Some.size c.args.shape c.args.len c.args.room c.is_sized.result
+    (sym c.in-Some.ensures) c.is_sized.ensures
 
 pub returns-in-None : goal.returns-in-None
 returns-in-None c = none_inverts c.args.kind c.args.shape c.args.len c.args.room (sym c.in-None.ensures)
