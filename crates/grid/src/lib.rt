@@ -14,10 +14,10 @@ mod brush;
 mod canvas;
 mod xyb;
 
-use border::paint;
+pub use border::{paint, write};
 pub use brush::{Area, Brush, Solid};
 pub use canvas::{Canvas, Raster};
-pub use xyb::Xyb;
+pub use xyb::{Xyb, views};
 
 /// How many elements lie in a row and how many rows there are, and how far apart two rows begin.
 #[derive(Clone, Copy)]

@@ -1,8 +1,8 @@
 //! What there is once for each channel.
 
 ghost use Rattle.std.specs.Prelude.{◌≡◌, ℕ, Bool, ◌&&◌, [], ◌∷◌};
-ghost use Rattle.grid.specs.Plane.{viewed};
-ghost use Rattle.grid.specs.Channels.{all_viewed, all_lent, all_fit, AreRasters};
+ghost use Rattle.grid.specs.Plane.{viewed, lent};
+ghost use Rattle.grid.specs.Channels.{planes, all_viewed, all_lent, all_fit, AreRasters};
 
 use crate::{Grid, Raster, View};
 
@@ -30,6 +30,17 @@ impl<T> Xyb<T> {
         ensures { (x y b : Bool) × F.post test self.x x × F.post test self.y y × F.post test self.b b × (result ≡ (x && y && b)) }
     {
         test(self.x) & test(self.y) & test(self.b)
+    }
+}
+
+/// The grids of X, Y and B, which a call is lent one by one, for reading alone.
+pub fn views<'a, T: Copy>(x: &'a Grid<T>, y: &'a Grid<T>, b: &'a Grid<T>) -> Xyb<View<'a, T>>
+    ensures { all_viewed result ≡ planes (lent x.now) (lent y.now) (lent b.now) }
+{
+    Xyb {
+        x: x.view(),
+        y: y.view(),
+        b: b.view(),
     }
 }
 

@@ -1,7 +1,6 @@
 -- One varblock's samples.
-use Rattle.std.proofs.Common.{◌≡◌, ℕ, ◌+◌, ◌-◌, ◌*◌, ◌<◌, ◌≤◌, List, length, get_or, take, drop, ℤ, sym, ap, ◌∙◌, mul_assoc, mul_comm, mul_left_comm, arith}
+use Rattle.std.proofs.Common.{◌≡◌, ℕ, ◌+◌, ◌-◌, ◌*◌, ◌<◌, List, length, get_or, take, drop, ℤ, sym, ap, ◌∙◌, mul_assoc, mul_comm, mul_left_comm, arith}
 use lib.Ieee.{Float, nan}
-use Rattle.std.proofs.lemmas.Bool.{and_parts, leb-true}
 use Rattle.std.proofs.lemmas.Nat.{mul-add-lt}
 use Rattle.std.proofs.lemmas.List.{get_or-take, get_or-drop, length-take-le, length-drop}
 use Rattle.grid.specs.declared.Shape.{Shape}
@@ -15,7 +14,7 @@ use Rattle.blocks.specs.declared.block.Block.{Block}
 use Rattle.blocks.specs.Areas.{area_of}
 use Rattle.blocks.specs.Blocks.{one_block}
 use Rattle.blocks.proofs.Patches.{patch_alike}
-use Rattle.weights.specs.Weights.{Table, start, weight, weighs, weights_of}
+use Rattle.weights.specs.Weights.{Table, start, weight, weights_of}
 use Rattle.hf_block.specs.declared.work.Scales.{Scales}
 use Rattle.hf_block.specs.Sample.{dequantised, multiplier}
 use Rattle.hf_block.specs.Dequantised.{sample_at, dequantising, Ready}
@@ -33,11 +32,6 @@ module _ (n : Plane ℤ) (t : Table) (by : Scales) (b : Block) (ready : Ready n 
   -- how many weights the kind has
   abbrev M : ℕ
   M = 64 * (wide b.varblock.kind * high b.varblock.kind)
-
-  -- they are there
-  enough : K + M ≤ length t.list
-  unfolding weighs
-  enough = leb-true _ _ (and_parts _ _ ready.weights).1
 
   index_below : (i j : ℕ) → i < 8 * b.size.width → j < 8 * b.size.height → j * (8 * b.size.width) + i < M
   index_below i j p q =
@@ -58,7 +52,7 @@ module _ (n : Plane ℤ) (t : Table) (by : Scales) (b : Block) (ready : Ready n 
   weight_below i j p q =
       let d : K + M - K ≡ M = omega arith in
       let long : length (weights_of t b.varblock.kind) ≡ M =
-      ap (λ e. length (take e (drop K t.list))) d ∙ length-take-le M (drop K t.list) (omega (arith, length-drop K t.list, enough)) in
+      ap (λ e. length (take e (drop K t.list))) d ∙ length-take-le M (drop K t.list) (omega (arith, length-drop K t.list, ready.weights)) in
       omega (arith, long, index_below i j p q)
 
   -- a weight of the block

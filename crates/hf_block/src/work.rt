@@ -2,15 +2,15 @@
 
 ghost use Rattle.std.specs.Prelude.{◌+◌, ◌*◌, ◌<◌, length};
 ghost use Rattle.grid.specs.Index.{Inside};
-ghost use Rattle.grid.specs.Plane.{seen};
-ghost use Rattle.weights.specs.Kinds.{by_kind};
+ghost use Rattle.grid.specs.Plane.{viewed, seen};
+ghost use Rattle.weights.specs.Weights.{table};
 ghost use Rattle.hf_block.specs.Dequantised.{sample_at, dequantising, Ready};
 
 use crate::sample::{multiplier, unbias};
 use blocks::{Block, Work};
 use channels::Numbers;
-use grid::{Area, Brush, Canvas};
-use weights::ByKind;
+use grid::{Area, Brush, Canvas, Raster, View};
+use weights::Weights;
 
 /// The numbers that go with a channel.
 #[derive(Clone, Copy)]
@@ -51,22 +51,24 @@ impl<'c, 'w> Brush<f32> for Samples<'c, 'w> {
 /// HF dequantise in one channel.
 #[derive(Clone, Copy)]
 pub struct Dequantise<'c, 'w> {
-    pub coefficients: Numbers<'c>,
-    pub weights: ByKind<'w>,
+    pub coefficients: View<'c, i32>,
+    pub weights: Weights<'w>,
     pub scales: Scales,
 }
 
 impl<'c, 'w> Work for Dequantise<'c, 'w> {
-    ghost ready = { λ s room v. Ready (seen s.coefficients.grid) (by_kind s.weights) s.scales v };
+    ghost ready = { λ s room v. Ready (viewed s.coefficients) (table s.weights) s.scales v };
 
-    ghost made = { λ s. dequantising (seen s.coefficients.grid) (by_kind s.weights) s.scales };
+    ghost made = { λ s. dequantising (viewed s.coefficients) (table s.weights) s.scales };
 
     fn work(&self, canvas: &mut Canvas<'_, f32>, block: Block, _scratch: &mut [f32]) {
+        let View { list, shape } = self.coefficients;
+        let grid = Raster { list, shape };
         let scales = self.scales;
         let area = block.area();
         let brush = Samples {
-            coefficients: self.coefficients,
-            weights: self.weights.of_block(block).unwrap(),
+            coefficients: Numbers { grid },
+            weights: self.weights.from_start(block),
             area,
             scales,
             mul: multiplier(scales.global_scale, block.varblock.hf_mul, scales.qm_scale),

@@ -1,4 +1,4 @@
 pub mod LeastTiles
 pub mod Tilewise
-mod Judging
+pub mod Judging
 pub mod Footprint

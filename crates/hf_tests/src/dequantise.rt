@@ -107,7 +107,8 @@ fn given(t: Trial, frame: &mut Frame, samples: &mut Xyb<Grid<f32>>) -> Result<u3
             starts: &zeros,
         },
     };
-    hf_dequantise(frame, map, samples, numbers, weights, t.by)
+    let Xyb { x, y, b } = samples;
+    hf_dequantise(frame, map, x, y, b, numbers, weights, t.by)
 }
 
 fn call(t: Trial) -> Result<Outcome, Refusal> {

@@ -3,7 +3,6 @@
 ghost use Rattle.std.specs.Prelude.{◌≤◌};
 
 use kinds::kind_size;
-use std::alloc::{AllocError, Global};
 use trials::Source;
 
 /// How many of the kinds have weights, from kind 0 on.
@@ -18,10 +17,24 @@ pub fn sample(source: &mut Source) -> f32 {
 }
 
 /// A whole number, mostly small.
-pub fn number(source: &mut Source) -> i32 {
+fn number(source: &mut Source) -> i32 {
     let most = most(source.draw(4));
     let n = source.draw(most) as i32;
     if source.draw(2) == 0 { n } else { -n }
+}
+
+/// The first `count` numbers of a list become whole numbers of the source.
+pub fn fill_numbers(source: &mut Source, list: &mut [i32], count: usize) {
+    for value in list.iter_mut().take(count) {
+        *value = number(source);
+    }
+}
+
+/// The first `count` numbers of a list become samples of the source.
+pub fn fill_samples(source: &mut Source, list: &mut [f32], count: usize) {
+    for value in list.iter_mut().take(count) {
+        *value = sample(source);
+    }
 }
 
 fn most(pick: u32) -> u32
@@ -56,11 +69,12 @@ pub fn starts() -> [u32; 27] {
     })
 }
 
-/// The weights of a channel, one kind after another.
-pub fn weights(alloc: Global, channel: u32) -> Result<Vec<f32>, AllocError> {
-    (0..KINDS)
-        .flat_map(|kind| (0..weight_count(kind)).map(move |i| weight(channel, kind, i)))
-        .collect(alloc)
+/// A channel's weights, one kind after another.
+pub fn fill_weights(channel: u32, list: &mut [f32]) {
+    let places = (0..KINDS).flat_map(|kind| (0..weight_count(kind)).map(move |i| (kind, i)));
+    for (value, (kind, i)) in list.iter_mut().zip(places) {
+        *value = weight(channel, kind, i);
+    }
 }
 
 fn weight(channel: u32, kind: u32, i: u32) -> f32 {

@@ -4,7 +4,7 @@
 
 ghost use Rattle.std.specs.Prelude.{◌≡◌, ℕ, ◌+◌, ◌≤◌, true, length};
 ghost use Rattle.grid.specs.Drawn.{Drawn};
-ghost use Rattle.grid.specs.Index.{sub, start};
+ghost use Rattle.grid.specs.Index.{Lawful, sub, start};
 ghost use Rattle.dct_2d.specs.Plane.{Patch};
 ghost use Rattle.kernel.specs.Maps.{maps, forwarded, inverted, side, BlockOf, imaged};
 ghost use Rattle.kernel.specs.Flat.{Flat};
@@ -65,13 +65,8 @@ fn over_area<F: FnOnce(&mut [f32], Shape, &mut [f32])>(
     call(&mut canvas.list[start..], part, scratch);
 }
 
-/// A patch of a grid becomes its forward image.
-pub fn forward_patch<K: Kernel>(
-    kernel: &K,
-    canvas: &mut Canvas<f32>,
-    area: Area,
-    scratch: &mut [f32],
-)
+/// A patch of a canvas becomes its forward image.
+fn forward_over<K: Kernel>(kernel: &K, canvas: &mut Canvas<f32>, area: Area, scratch: &mut [f32])
     requires wide { side area.width ≡ true }
     requires tall { side area.height ≡ true }
     requires across { area.x + area.width ≤ canvas.old.shape.width }
@@ -87,8 +82,29 @@ pub fn forward_patch<K: Kernel>(
     over_area(call, canvas, area, scratch);
 }
 
-/// A block of a grid becomes its inverse image.
-pub fn inverse_patch<K: Kernel>(
+/// A patch of a grid becomes its forward image.
+// a list and a shape, here and below: a caller that reaches its list through another reference makes no `Canvas` of it, since nothing would be known of that list afterwards
+pub fn forward_patch<K: Kernel>(
+    kernel: &K,
+    list: &mut [f32],
+    shape: Shape,
+    area: Area,
+    scratch: &mut [f32],
+)
+    requires lawful { Lawful shape (length list.old) }
+    requires wide { side area.width ≡ true }
+    requires tall { side area.height ≡ true }
+    requires across { area.x + area.width ≤ shape.width }
+    requires down { area.y + area.height ≤ shape.height }
+    requires room { 512 ≤ length scratch.old }
+    ensures { list.new ≡ imaged shape area (K.Kernel.fwd area.width area.height) list.old }
+{
+    let canvas = &mut Canvas { list, shape };
+    forward_over(kernel, canvas, area, scratch);
+}
+
+/// A block of a canvas becomes its inverse image.
+fn inverse_over<K: Kernel>(
     kernel: &K,
     kind: u32,
     canvas: &mut Canvas<f32>,
@@ -109,4 +125,26 @@ pub fn inverse_patch<K: Kernel>(
         kernel.inverse(kind, list, part, scratch);
     };
     over_area(call, canvas, area, scratch);
+}
+
+/// A block of a grid becomes its inverse image.
+pub fn inverse_patch<K: Kernel>(
+    kernel: &K,
+    kind: u32,
+    list: &mut [f32],
+    shape: Shape,
+    area: Area,
+    scratch: &mut [f32],
+)
+    requires lawful { Lawful shape (length list.old) }
+    requires block { BlockOf kind area }
+    requires wide { 1 ≤ area.width }
+    requires tall { 1 ≤ area.height }
+    requires across { area.x + area.width ≤ shape.width }
+    requires down { area.y + area.height ≤ shape.height }
+    requires room { 512 ≤ length scratch.old }
+    ensures { list.new ≡ imaged shape area (K.Kernel.inv kind) list.old }
+{
+    let canvas = &mut Canvas { list, shape };
+    inverse_over(kernel, kind, canvas, area, scratch);
 }

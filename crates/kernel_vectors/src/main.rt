@@ -9,7 +9,7 @@ use kinds::{Size, kind_size};
 use std::fmt;
 use std::num::{f32_from_bits_with_nan, f32_to_bits_with_nan};
 use transform::{Mean, Vardct};
-use trials::{PADDING, Source, filled, keeps_padding, padded, within};
+use trials::{PADDING, Source, filled, keeps_padding, padded};
 
 /// The numbers that a grid is filled with.
 #[derive(Clone, Copy)]
@@ -73,12 +73,15 @@ impl Numbers {
 
 /// Prints the hash of a grid's numbers, its first and its last number, and a word if the padding has changed.
 fn print(rt: &HostRuntime, list: &[f32], shape: Shape) -> anyhow::Result<()> {
-    let samples = within(rt.alloc(), list, shape)?;
-    let hash = samples.iter().fold(0u32, |hash, v| {
-        hash.wrapping_mul(31).wrapping_add(f32_to_bits_with_nan(*v))
-    });
-    let first = samples.first().map_or(0, |v| f32_to_bits_with_nan(*v));
-    let last = samples.last().map_or(0, |v| f32_to_bits_with_nan(*v));
+    let (mut hash, mut first, mut last) = (0u32, None, 0u32);
+    for row in list.chunks(shape.stride.max(1)) {
+        for v in row.iter().take(shape.width) {
+            last = f32_to_bits_with_nan(*v);
+            hash = hash.wrapping_mul(31).wrapping_add(last);
+            first = first.or(Some(last));
+        }
+    }
+    let first = first.unwrap_or(0);
     let word = if keeps_padding(list, shape) {
         ""
     } else {
@@ -88,14 +91,14 @@ fn print(rt: &HostRuntime, list: &[f32], shape: Shape) -> anyhow::Result<()> {
     Ok(())
 }
 
-/// Prints what a map, over scratch of 512 numbers, makes of numbers of this mode.
-fn show<F: FnOnce(&mut [f32], &mut [f32]) + Drop>(
+/// The list that a map, over scratch of 512 numbers, makes of numbers of this mode.
+fn mapped<F: FnOnce(&mut [f32], &mut [f32]) + Drop>(
     rt: &HostRuntime,
     shape: Shape,
     seed: u32,
     mode: Mode,
     map: F,
-) -> anyhow::Result<()>
+) -> anyhow::Result<Vec<f32>>
     requires { F.IsAlwaysCallable map }
 {
     let mut numbers = Numbers {
@@ -105,7 +108,7 @@ fn show<F: FnOnce(&mut [f32], &mut [f32]) + Drop>(
     };
     let mut list = filled(rt.alloc(), shape, PADDING, || Ok(numbers.number()))?;
     map(list.as_mut_slice(), &mut [0.0; 512]);
-    print(rt, list.as_slice(), shape)
+    Ok(list)
 }
 
 /// Both kernels' inverses of a kind.
@@ -116,23 +119,26 @@ fn inverses(rt: &HostRuntime, kind: u32, size: Size) -> anyhow::Result<()> {
         for pad in 0..2usize {
             let shape = padded(w, h, pad);
             let stride = shape.stride;
-            print!(rt; "inverse {kind} stride {stride} mode {mode}")?;
-            show(rt, shape, seed, mode, |list, scratch| {
+            let list = mapped(rt, shape, seed, mode, |list, scratch| {
                 Vardct.inverse(kind, list, shape, scratch);
             })?;
+            print!(rt; "inverse {kind} stride {stride} mode {mode}")?;
+            print(rt, list.as_slice(), shape)?;
         }
     }
     let shape = padded(w, h, 3);
-    print!(rt; "mean {kind}")?;
-    show(rt, shape, seed, Mode::Wide, |list, scratch| {
+    let list = mapped(rt, shape, seed, Mode::Wide, |list, scratch| {
         Mean.inverse(kind, list, shape, scratch);
-    })
+    })?;
+    print!(rt; "mean {kind}")?;
+    print(rt, list.as_slice(), shape)
 }
 
 fn forward(rt: &HostRuntime, shape: Shape, mode: Mode) -> anyhow::Result<()> {
     let (w, h) = (shape.width, shape.height);
-    print!(rt; "forward {w} {h} mode {mode}")?;
-    show(rt, shape, 200, mode, |list, scratch| {
+    let list = mapped(rt, shape, 200, mode, |list, scratch| {
         Vardct.forward(list, shape, scratch);
-    })
+    })?;
+    print!(rt; "forward {w} {h} mode {mode}")?;
+    print(rt, list.as_slice(), shape)
 }

@@ -3,9 +3,12 @@ use Rattle.std.proofs.Common.{◌≡◌, ℕ, zero, suc, ◌+◌, ◌-◌, ◌*�
 use lib.Ieee.{Float}
 use Rattle.std.proofs.lemmas.List.{get_or_default}
 use Rattle.grid.specs.declared.Shape.{Shape}
+use Rattle.grid.specs.declared.Grid.{Grid}
+use Rattle.grid.specs.declared.View.{View}
 use Rattle.grid.specs.Index.{index, Inside, Lawful}
 use Rattle.grid.specs.Painted.{painted}
-use Rattle.grid.specs.Plane.{Plane}
+use Rattle.grid.specs.Plane.{Plane, lent, viewed}
+use Rattle.grid.specs.Channels.{planes}
 use Rattle.grid.proofs.Laws.{index_below, length_painted, painted_in, painted_out, is_painted}
 
 -- functions that agree on what the list holds paint alike
@@ -27,3 +30,11 @@ rows w (suc h) p = let e : suc h - 1 ≡ h = omega arith in rw e (omega (arith, 
 -- a grid by its list and its shape
 pub same_plane : (s t : Shape) (xs ys : List Float) → xs ≡ ys → s ≡ t → ◌≡◌ {A = Plane Float} (record { shape = s; list = xs }) (record { shape = t; list = ys })
 same_plane s t xs ys e f = cc
+
+-- a view of a grid is the same grid
+pub viewed_lent : (v : View Float) (g : Grid Float) → v.list.now ≡ g.list.now → v.shape ≡ g.shape → viewed v ≡ lent g
+viewed_lent v g e f = cc
+
+-- so are three views
+pub same_planes : (x y b u v w : Plane Float) → x ≡ u → y ≡ v → b ≡ w → planes x y b ≡ planes u v w
+same_planes x y b u v w e f g = cc

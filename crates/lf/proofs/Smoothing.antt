@@ -1,5 +1,5 @@
 -- What LF smooth rests on.
-use Rattle.std.proofs.Common.{◌≡◌, ℕ, ◌+◌, ◌-◌, ◌*◌, ◌<◌, ◌≤◌, true, false, cond, ◌&&◌, ltb, leb, ◌⊎◌, List, length, get_or, sym, ap, ◌∙◌, subst, inl, inr, arith}
+use Rattle.std.proofs.Common.{◌≡◌, ℕ, ◌+◌, ◌-◌, ◌*◌, ◌<◌, ◌≤◌, true, false, cond, ◌&&◌, ltb, leb, ◌⊎◌, List, length, get_or, is_err, sym, refl, ap, ◌∙◌, subst, inl, inr, arith}
 use lib.Ieee.{Float, nan, binary32, add, mul}
 use Rattle.std.proofs.lemmas.Bool.{cases_Bool, cond-true, cond-false, and_parts, leb-true, ltb-true}
 use Rattle.std.proofs.lemmas.Bool.Decides.{nat_tests}
@@ -12,9 +12,28 @@ use Rattle.grid.specs.Plane.{Plane, fitting, sample}
 use Rattle.grid.specs.Channels.{planes, all_fit}
 use Rattle.grid.proofs.Laws.{painted_in, painted_alike}
 use Rattle.grid.proofs.Sized.{sized_true}
-use Rattle.lf.specs.Smooth.{change, share_of, share, shared, smoothed, inner, within_border, lf_smoothed, Holds, Fits, AllFit, moved}
+use Rattle.refusal.proofs.Rows.{and_ok, demand_ok, not_err}
+use Rattle.frame.specs.declared.stages.Stage.{Stage}
+use Rattle.lf.specs.Smooth.{lf_smooth_answer, change, share_of, share, shared, smoothed, inner, within_border, lf_smoothed, Holds, Fits, AllFit, moved}
 use Rattle.channels.proofs.Fitting.{fits_three}
 use Rattle.lf.proofs.Grids.{painted_own, rows}
+
+-- what an accepted LF smooth has found
+pub record Accepted (w h : ℕ) (lf : Xyb (Plane Float)) (n : ℕ) : Type 0 where
+  pub x : fitting w h lf.x ≡ true
+  pub y : fitting w h lf.y ≡ true
+  pub b : fitting w h lf.b ≡ true
+  pub room : 3 * (w * h) ≤ n
+
+pub accepted : (w h : ℕ) (st : Stage) (lf : Xyb (Plane Float)) (steps : Xyb Float) (room : ℕ)
+    → is_err (lf_smooth_answer w h st lf steps room) ≡ false → Accepted w h lf room
+accepted w h st lf steps room e =
+    let ok = not_err _ e in
+    let turn = and_ok _ _ _ ok.1 in
+    let shape = and_ok _ _ _ turn.1 in
+    let long = and_ok _ _ _ shape.1 in
+    let fits = fits_three w h lf (demand_ok _ _ shape.0) in
+    record { x = fits.0; y = fits.1; b = fits.2; room = leb-true _ _ (demand_ok _ _ long.0) }
 
 -- ---- places within the border
 pub record Inner (w h x y : ℕ) : Type 0 where
@@ -47,6 +66,21 @@ shifted f i j old = f (i + 1) (j + 1) old
 
 abbrev pub inner_area : ℕ → ℕ → Area
 inner_area w h = record { x = 1; y = 1; width = w - 2; height = h - 2 }
+
+-- its sides, in a grid of w × h
+pub record Sides (w h : ℕ) (a : Area) : Type 0 where
+  pub across : a.x + a.width ≤ w
+  pub down : a.y + a.height ≤ h
+  pub width : a.width ≡ w - 2
+  pub height : a.height ≡ h - 2
+
+pub sides : (w h : ℕ) (p : Plane Float) (a : Area) → fitting w h p ≡ true → a ≡ inner_area w h → Sides w h a
+sides w h p a f e =
+    let z = sized_true w h p.shape (length p.list) f in
+    let l = z.lawful in
+    let wide : 1 ≤ w = omega (arith, l.wide, z.width) in
+    let tall : 1 ≤ h = omega (arith, l.tall, z.height) in
+    subst (Sides w h) (sym e) (record { across = omega arith; down = omega arith; width = refl; height = refl })
 
 shift : (w h : ℕ) (f : ℕ → ℕ → Float → Float) (x y : ℕ) (old : Float) → patch 1 1 (w - 2) (h - 2) (shifted f) x y old ≡ within_border w h f x y old
 shift w h f x y old =

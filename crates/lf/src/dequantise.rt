@@ -4,7 +4,7 @@ ghost use Rattle.std.specs.Prelude.{◌≡◌};
 ghost use Rattle.grid.specs.Index.{Inside};
 ghost use Rattle.grid.specs.Became.{Became};
 ghost use Rattle.grid.specs.Plane.{lent, viewed, seen};
-ghost use Rattle.grid.specs.Channels.{all_lent, all_viewed};
+ghost use Rattle.grid.specs.Channels.{planes, all_viewed};
 ghost use Rattle.refusal.specs.Verdicts.{kept_or};
 ghost use Rattle.frame.specs.declared.stages.Stage.TheVariants as stage;
 ghost use Rattle.frame.specs.Stages.{InStage};
@@ -17,28 +17,36 @@ use grid::{Brush, Grid, View, Xyb};
 use refusal::{Reason, Refusal, require};
 
 /// Each LF sample becomes its number times the channel's scale.
+// kept as three parameters, not one `Xyb`: a host that puts lent lists two structs deep would not learn what became of them
 pub fn lf_dequantise(
     frame: &mut Frame,
-    lf: &mut Xyb<Grid<f32>>,
+    x: &mut Grid<f32>,
+    y: &mut Grid<f32>,
+    b: &mut Grid<f32>,
     numbers: Xyb<View<i32>>,
     scales: Xyb<f32>,
 ) -> Result<u32, Refusal>
-    ensures answer { result ≡ lf_dequantise_answer frame.old.w8 frame.old.h8 frame.old.stage (all_lent lf.old) (all_viewed numbers.entry) scales }
+    ensures answer { result ≡ lf_dequantise_answer frame.old.w8 frame.old.h8 frame.old.stage (planes (lent x.old) (lent y.old) (lent b.old)) (planes (viewed numbers.entry.x) (viewed numbers.entry.y) (viewed numbers.entry.b)) scales }
     ensures stage { InStage frame.old frame.new (kept_or result frame.old.stage stage.LfDequantised) }
-    ensures x { Became lf.old.x lf.new.x (kept_or result lf.old.x.list.now (lf_dequantised (viewed numbers.entry.x) scales.x (lent lf.old.x))) }
-    ensures y { Became lf.old.y lf.new.y (kept_or result lf.old.y.list.now (lf_dequantised (viewed numbers.entry.y) scales.y (lent lf.old.y))) }
-    ensures b { Became lf.old.b lf.new.b (kept_or result lf.old.b.list.now (lf_dequantised (viewed numbers.entry.b) scales.b (lent lf.old.b))) }
+    ensures x { Became x.old x.new (kept_or result x.old.list.now (lf_dequantised (viewed numbers.entry.x) scales.x (lent x.old))) }
+    ensures y { Became y.old y.new (kept_or result y.old.list.now (lf_dequantised (viewed numbers.entry.y) scales.y (lent y.old))) }
+    ensures b { Became b.old b.new (kept_or result b.old.list.now (lf_dequantised (viewed numbers.entry.b) scales.b (lent b.old))) }
 {
-    let numbers = judge(frame, lf.views(), numbers, scales)?;
-    lf.x.paint_all(&Dequantised {
+    let lf = Xyb {
+        x: x.view(),
+        y: y.view(),
+        b: b.view(),
+    };
+    let numbers = judge(frame, lf, numbers, scales)?;
+    x.paint_all(&Dequantised {
         numbers: numbers.x,
         scale: scales.x,
     });
-    lf.y.paint_all(&Dequantised {
+    y.paint_all(&Dequantised {
         numbers: numbers.y,
         scale: scales.y,
     });
-    lf.b.paint_all(&Dequantised {
+    b.paint_all(&Dequantised {
         numbers: numbers.b,
         scale: scales.b,
     });

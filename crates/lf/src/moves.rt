@@ -5,7 +5,7 @@ ghost use Rattle.std.specs.Prelude.{◌≡◌, ◌+◌, ◌-◌, ◌^◌, ◌<�
 ghost use Rattle.grid.specs.Index.{Inside, Lawful};
 ghost use Rattle.grid.specs.Became.{Became};
 ghost use Rattle.grid.specs.Plane.{Plane, lent, laid, seen};
-ghost use Rattle.grid.specs.Channels.{planes, all_lent};
+ghost use Rattle.grid.specs.Channels.{planes};
 ghost use Rattle.lf.specs.Smooth.{change as change_of, gap as gap_of, share as share_of, shared, moved, Holds, SameSize, Fits, AllFit, Around, lf_smoothed};
 
 use crate::around::{change, sample_at};
@@ -33,19 +33,19 @@ pub struct Parts<'a> {
 }
 
 /// The changes of X and of Y, and how much of its changes each cell makes.
-pub fn look_around(lf: &Xyb<Grid<f32>>, steps: Xyb<f32>, parts: &mut Parts)
-    requires { AllFit (all_lent lf.now) parts.old.shares.shape }
+pub fn look_around(x: &Grid<f32>, y: &Grid<f32>, b: &Grid<f32>, steps: Xyb<f32>, parts: &mut Parts)
+    requires { AllFit (planes (lent x.now) (lent y.now) (lent b.now)) parts.old.shares.shape }
     ensures shape { parts.new.shares.shape ≡ parts.old.shares.shape }
-    ensures x { Holds parts.old.shares.shape.width parts.old.shares.shape.height (laid parts.new.changes) (change_of (lent lf.now.x)) }
-    ensures y { Holds parts.old.shares.shape.width parts.old.shares.shape.height (laid parts.new.y_changes) (change_of (lent lf.now.y)) }
-    ensures share { Holds parts.old.shares.shape.width parts.old.shares.shape.height (laid parts.new.shares) (share_of (all_lent lf.now) steps) }
+    ensures x { Holds parts.old.shares.shape.width parts.old.shares.shape.height (laid parts.new.changes) (change_of (lent x.now)) }
+    ensures y { Holds parts.old.shares.shape.width parts.old.shares.shape.height (laid parts.new.y_changes) (change_of (lent y.now)) }
+    ensures share { Holds parts.old.shares.shape.width parts.old.shares.shape.height (laid parts.new.shares) (share_of (planes (lent x.now) (lent y.now) (lent b.now)) steps) }
 {
-    write_changes(raster(&lf.x), &mut parts.changes);
-    write_changes(raster(&lf.y), &mut parts.y_changes);
+    write_changes(raster(x), &mut parts.changes);
+    write_changes(raster(y), &mut parts.y_changes);
     let share = Share {
         x: parts.changes.raster(),
         y: parts.y_changes.raster(),
-        b: raster(&lf.b),
+        b: raster(b),
         steps,
     };
     write_shares(&share, &mut parts.shares);

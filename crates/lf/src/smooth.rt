@@ -3,7 +3,7 @@
 ghost use Rattle.std.specs.Prelude.{◌≡◌, ◌*◌, ◌≤◌, true, length, is_err};
 ghost use Rattle.grid.specs.Became.{Became};
 ghost use Rattle.grid.specs.Plane.{lent};
-ghost use Rattle.grid.specs.Channels.{all_lent, all_viewed, all_fit};
+ghost use Rattle.grid.specs.Channels.{planes, all_viewed, all_fit};
 ghost use Rattle.refusal.specs.Verdicts.{kept_or};
 ghost use Rattle.frame.specs.declared.stages.Stage.TheVariants as stage;
 ghost use Rattle.frame.specs.Stages.{InStage};
@@ -15,22 +15,30 @@ use grid::{Canvas, Grid, Shape, View, Xyb};
 use refusal::{Reason, Refusal, require};
 
 /// Each LF sample within the border moves towards the average around it, the less the further that is.
+// kept as three parameters for the reason that `lf_dequantise` names
 pub fn lf_smooth(
     frame: &mut Frame,
-    lf: &mut Xyb<Grid<f32>>,
+    x: &mut Grid<f32>,
+    y: &mut Grid<f32>,
+    b: &mut Grid<f32>,
     steps: Xyb<f32>,
     scratch: &mut [f32],
 ) -> Result<u32, Refusal>
-    ensures answer { result ≡ lf_smooth_answer frame.old.w8 frame.old.h8 frame.old.stage (all_lent lf.old) steps (length scratch.old) }
+    ensures answer { result ≡ lf_smooth_answer frame.old.w8 frame.old.h8 frame.old.stage (planes (lent x.old) (lent y.old) (lent b.old)) steps (length scratch.old) }
     ensures stage { InStage frame.old frame.new (kept_or result frame.old.stage stage.LfSmoothed) }
-    ensures x { Became lf.old.x lf.new.x (kept_or result lf.old.x.list.now (lf_smoothed frame.old.w8 frame.old.h8 (all_lent lf.old) steps (lent lf.old.x))) }
-    ensures y { Became lf.old.y lf.new.y (kept_or result lf.old.y.list.now (lf_smoothed frame.old.w8 frame.old.h8 (all_lent lf.old) steps (lent lf.old.y))) }
-    ensures b { Became lf.old.b lf.new.b (kept_or result lf.old.b.list.now (lf_smoothed frame.old.w8 frame.old.h8 (all_lent lf.old) steps (lent lf.old.b))) }
+    ensures x { Became x.old x.new (kept_or result x.old.list.now (lf_smoothed frame.old.w8 frame.old.h8 (planes (lent x.old) (lent y.old) (lent b.old)) steps (lent x.old))) }
+    ensures y { Became y.old y.new (kept_or result y.old.list.now (lf_smoothed frame.old.w8 frame.old.h8 (planes (lent x.old) (lent y.old) (lent b.old)) steps (lent y.old))) }
+    ensures b { Became b.old b.new (kept_or result b.old.list.now (lf_smoothed frame.old.w8 frame.old.h8 (planes (lent x.old) (lent y.old) (lent b.old)) steps (lent b.old))) }
     ensures scratch { is_err result ≡ true → scratch.new ≡ scratch.old }
     ensures room { length scratch.new ≡ length scratch.old }
 {
-    let answer = judge(frame, lf.views(), steps, scratch.len())?;
-    smooth_by(frame.w8(), frame.h8(), lf, steps, scratch);
+    let lf = Xyb {
+        x: x.view(),
+        y: y.view(),
+        b: b.view(),
+    };
+    let answer = judge(frame, lf, steps, scratch.len())?;
+    smooth_by(frame.w8(), frame.h8(), x, y, b, steps, scratch);
     frame.lead_to(Stage::LfSmoothed);
     Ok(answer)
 }
@@ -62,12 +70,20 @@ fn is_step(step: f32) -> bool
 }
 
 /// The three channels, once nothing is refused, by scratch as three grids.
-fn smooth_by(w: usize, h: usize, lf: &mut Xyb<Grid<f32>>, steps: Xyb<f32>, scratch: &mut [f32])
-    requires fit { all_fit w h (all_lent lf.old) ≡ true }
+fn smooth_by(
+    w: usize,
+    h: usize,
+    x: &mut Grid<f32>,
+    y: &mut Grid<f32>,
+    b: &mut Grid<f32>,
+    steps: Xyb<f32>,
+    scratch: &mut [f32],
+)
+    requires fit { all_fit w h (planes (lent x.old) (lent y.old) (lent b.old)) ≡ true }
     requires room { 3 * (w * h) ≤ length scratch.old }
-    ensures x { Became lf.old.x lf.new.x (lf_smoothed w h (all_lent lf.old) steps (lent lf.old.x)) }
-    ensures y { Became lf.old.y lf.new.y (lf_smoothed w h (all_lent lf.old) steps (lent lf.old.y)) }
-    ensures b { Became lf.old.b lf.new.b (lf_smoothed w h (all_lent lf.old) steps (lent lf.old.b)) }
+    ensures x { Became x.old x.new (lf_smoothed w h (planes (lent x.old) (lent y.old) (lent b.old)) steps (lent x.old)) }
+    ensures y { Became y.old y.new (lf_smoothed w h (planes (lent x.old) (lent y.old) (lent b.old)) steps (lent y.old)) }
+    ensures b { Became b.old b.new (lf_smoothed w h (planes (lent x.old) (lent y.old) (lent b.old)) steps (lent b.old)) }
 {
     let shape = Shape::dense(w, h);
     let (first, rest) = scratch.split_at_mut(w * h);
@@ -80,20 +96,26 @@ fn smooth_by(w: usize, h: usize, lf: &mut Xyb<Grid<f32>>, steps: Xyb<f32>, scrat
         },
         shares: Canvas { list: third, shape },
     };
-    smooth_all(lf, steps, parts);
+    smooth_all(x, y, b, steps, parts);
 }
 
 /// The three channels. Scratch first gets the changes of X and Y and how much of them each cell makes; a channel is
 /// written only from scratch, so that all is made of old samples.
-fn smooth_all(lf: &mut Xyb<Grid<f32>>, steps: Xyb<f32>, parts: &mut Parts)
-    requires { AllFit (all_lent lf.old) parts.old.shares.shape }
-    ensures x { Became lf.old.x lf.new.x (lf_smoothed parts.old.shares.shape.width parts.old.shares.shape.height (all_lent lf.old) steps (lent lf.old.x)) }
-    ensures y { Became lf.old.y lf.new.y (lf_smoothed parts.old.shares.shape.width parts.old.shares.shape.height (all_lent lf.old) steps (lent lf.old.y)) }
-    ensures b { Became lf.old.b lf.new.b (lf_smoothed parts.old.shares.shape.width parts.old.shares.shape.height (all_lent lf.old) steps (lent lf.old.b)) }
+fn smooth_all(
+    x: &mut Grid<f32>,
+    y: &mut Grid<f32>,
+    b: &mut Grid<f32>,
+    steps: Xyb<f32>,
+    parts: &mut Parts,
+)
+    requires { AllFit (planes (lent x.old) (lent y.old) (lent b.old)) parts.old.shares.shape }
+    ensures x { Became x.old x.new (lf_smoothed parts.old.shares.shape.width parts.old.shares.shape.height (planes (lent x.old) (lent y.old) (lent b.old)) steps (lent x.old)) }
+    ensures y { Became y.old y.new (lf_smoothed parts.old.shares.shape.width parts.old.shares.shape.height (planes (lent x.old) (lent y.old) (lent b.old)) steps (lent y.old)) }
+    ensures b { Became b.old b.new (lf_smoothed parts.old.shares.shape.width parts.old.shares.shape.height (planes (lent x.old) (lent y.old) (lent b.old)) steps (lent b.old)) }
 {
-    look_around(lf, steps, parts);
-    move_channel(&mut lf.x, parts.changes.raster(), parts.shares.raster());
-    move_channel(&mut lf.y, parts.y_changes.raster(), parts.shares.raster());
-    write_changes(raster(&lf.b), &mut parts.changes);
-    move_channel(&mut lf.b, parts.changes.raster(), parts.shares.raster());
+    look_around(x, y, b, steps, parts);
+    move_channel(x, parts.changes.raster(), parts.shares.raster());
+    move_channel(y, parts.y_changes.raster(), parts.shares.raster());
+    write_changes(raster(b), &mut parts.changes);
+    move_channel(b, parts.changes.raster(), parts.shares.raster());
 }

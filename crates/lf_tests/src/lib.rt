@@ -1,6 +1,10 @@
-//! Examples of LF dequantise, LF correlate and LF smooth, run.
+//! Examples of LF dequantise, LF correlate and LF smooth, run; and what a host knows of the lists that it lends to them.
 
 #![tactic(auto)]
+
+mod lent;
+
+pub use lent::{dequantised_lists, smoothed_lists};
 
 #[cfg(test)]
 mod tests {
@@ -54,8 +58,12 @@ mod tests {
             b: scale,
         };
         let (mut xs, mut ys) = ([7.0f32; 12], [7.0f32; 12]);
-        let mut lf = grids(&mut xs, &mut ys, b, SHAPE);
-        let answer = lf_dequantise(&mut frame, &mut lf, given, scales);
+        let Xyb {
+            mut x,
+            mut y,
+            mut b,
+        } = grids(&mut xs, &mut ys, b, SHAPE);
+        let answer = lf_dequantise(&mut frame, &mut x, &mut y, &mut b, given, scales);
         Ok(seen(&frame, answer))
     }
 
@@ -168,14 +176,18 @@ mod tests {
     ) -> Result<Seen, Refusal> {
         let mut frame = framed(stage)?;
         let (mut xs, mut ys, mut bs) = ([1.0f32; 12], [2.0f32; 12], [3.0f32; 12]);
-        let mut lf = grids(&mut xs, &mut ys, &mut bs, SHAPE);
-        lf.b.shape.width = width;
+        let Xyb {
+            mut x,
+            mut y,
+            mut b,
+        } = grids(&mut xs, &mut ys, &mut bs, SHAPE);
+        b.shape.width = width;
         let steps = Xyb {
             x: 1.0f32,
             y: 1.0,
             b: step,
         };
-        let answer = lf_smooth(&mut frame, &mut lf, steps, scratch);
+        let answer = lf_smooth(&mut frame, &mut x, &mut y, &mut b, steps, scratch);
         Ok(seen(&frame, answer))
     }
 

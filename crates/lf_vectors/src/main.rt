@@ -16,6 +16,9 @@ use trials::{PADDING, Picture, keeps_padding, opened, three, within};
 use varmap::Cell;
 use words::Words;
 
+/// How many cells a map has, and how many numbers scratch has: a case that wants more is refused.
+const ROOM: usize = 1024;
+
 fn main(rt: HostRuntime) -> anyhow::Result<()> {
     let heap = rt.alloc();
     for line in BufReader::new(heap, rt.stdin())?.lines(heap) {
@@ -43,10 +46,10 @@ fn play(rt: &HostRuntime, line: &str) -> anyhow::Result<()> {
     print(rt, &lf)
 }
 
-/// A frame of as many cells as the shape has elements, in a stage.
+/// A frame of as many cells as the shape has elements, in a stage; there is room for a map of 1024 cells.
 fn framed(rt: &HostRuntime, shape: Shape, stage: Stage) -> anyhow::Result<Frame> {
     let Shape { width, height, .. } = shape;
-    let mut cells = vec![in rt.alloc(); Cell::EMPTY; width.saturating_mul(height)]?;
+    let mut cells = vec![in rt.alloc(); Cell::EMPTY; ROOM]?;
     opened(cells.as_mut_slice(), Shape::dense(width, height), stage).map_err(|_| anyhow!(
         "open is refused"
     ))
@@ -68,11 +71,13 @@ fn print(rt: &HostRuntime, lf: &Picture<f32>) -> anyhow::Result<()> {
 /// Prints the samples of a channel, and a word if the padding has changed.
 fn print_channel(rt: &HostRuntime, list: &[f32], shape: Shape, end: &str) -> anyhow::Result<()> {
     for (i, sample) in within(rt.alloc(), list, shape)?.iter().enumerate() {
-        if i > 0 {
-            print!(rt; " ")?;
-        }
         let bits = f32_to_bits_with_nan(*sample);
-        print!(rt; "{bits:08x}")?;
+        // one print for each sample: each is a write of its own
+        if i == 0 {
+            print!(rt; "{bits:08x}")?;
+        } else {
+            print!(rt; " {bits:08x}")?;
+        }
     }
     if !keeps_padding(list, shape) {
         print!(rt; " padding")?;
@@ -92,11 +97,15 @@ fn accept(answer: Result<u32, Refusal>) -> anyhow::Result<()> {
 fn smooth(rt: &HostRuntime, words: &mut Words, shape: Shape) -> anyhow::Result<Picture<f32>> {
     let steps = three(|| words.sample())?;
     let mut lf = samples(rt, words, shape)?;
-    let room = shape.width.saturating_mul(shape.height).saturating_mul(3);
-    let mut scratch = vec![in rt.alloc(); 0.0f32; room]?;
+    let mut scratch = vec![in rt.alloc(); 0.0f32; ROOM]?;
     let mut frame = framed(rt, shape, Stage::LfDequantised)?;
     let scratch = scratch.as_mut_slice();
-    accept(lf_smooth(&mut frame, &mut lf.grids(), steps, scratch))?;
+    let Xyb {
+        mut x,
+        mut y,
+        mut b,
+    } = lf.grids();
+    accept(lf_smooth(&mut frame, &mut x, &mut y, &mut b, steps, scratch))?;
     Ok(lf)
 }
 
@@ -120,6 +129,11 @@ fn dequantise(rt: &HostRuntime, words: &mut Words, shape: Shape) -> anyhow::Resu
     let numbers = Picture::drawn(rt.alloc(), shape, 0, || words.number())?;
     let mut lf = Picture::drawn(rt.alloc(), shape, PADDING, || Ok(PADDING))?;
     let mut frame = framed(rt, shape, Stage::Placing)?;
-    accept(lf_dequantise(&mut frame, &mut lf.grids(), numbers.views(), scales))?;
+    let Xyb {
+        mut x,
+        mut y,
+        mut b,
+    } = lf.grids();
+    accept(lf_dequantise(&mut frame, &mut x, &mut y, &mut b, numbers.views(), scales))?;
     Ok(lf)
 }

@@ -45,7 +45,7 @@ impl<T: Copy + Drop> Sheet<T> {
         }
     }
 
-    // beside `view`: a `&mut` and a `&` of the same, as the two functions below
+    // beside `view`: a `&mut` and a `&` of the same
     pub fn grid(&mut self) -> Grid<'_, T> {
         Grid {
             list: self.list.as_mut_slice(),
@@ -97,14 +97,5 @@ pub fn views<T: Copy + Drop>(sheets: &Xyb<Sheet<T>>) -> Xyb<View<'_, T>> {
         x: sheets.x.view(),
         y: sheets.y.view(),
         b: sheets.b.view(),
-    }
-}
-
-/// The grid of each channel.
-pub fn grids<T: Copy + Drop>(sheets: &mut Xyb<Sheet<T>>) -> Xyb<Grid<'_, T>> {
-    Xyb {
-        x: sheets.x.grid(),
-        y: sheets.y.grid(),
-        b: sheets.b.grid(),
     }
 }

@@ -73,7 +73,7 @@ all_ready map lf samples room r v l =
     record { across = omega (arith, k.across, r.lf_width); down = omega (arith, k.down, r.lf_height); enough = r.enough }
 
 -- one channel of an accepted call
-rebuildable : (w8 h8 : ℕ) (map : Map) (lf samples : Plane Float) (room : ℕ) → fitting w8 h8 (seen map.grid) ≡ true
+pub rebuildable : (w8 h8 : ℕ) (map : Map) (lf samples : Plane Float) (room : ℕ) → fitting w8 h8 (seen map.grid) ≡ true
     → fitting w8 h8 lf ≡ true → fitting (8 * w8) (8 * h8) samples ≡ true → 512 ≤ room → Rebuildable map lf samples room
 rebuildable w8 h8 map lf samples room m l s enough =
     let zm = sized_true _ _ _ _ m in
@@ -89,7 +89,7 @@ rebuildable w8 h8 map lf samples room m l s enough =
     }
 
 -- there are few leads
-few_leads : (w h : ℕ) (m : ℕ → ℕ → Record) → w ≤ 128 → h ≤ 128 → length (leads w h m) ≤ 16384
+pub few_leads : (w h : ℕ) (m : ℕ → ℕ → Record) → w ≤ 128 → h ≤ 128 → length (leads w h m) ≤ 16384
 unfolding leads
 few_leads w h m a b = omega (arith, count_below w m (w * h), mul-le w h 128 128 a b)
 

@@ -8,7 +8,7 @@ mod work;
 ghost use Rattle.std.specs.Prelude.{◌≡◌, ◌≤◌, true, length, is_err};
 ghost use Rattle.grid.specs.Became.{Became};
 ghost use Rattle.grid.specs.Plane.{viewed, seen, lent};
-ghost use Rattle.grid.specs.Channels.{all_viewed, all_lent};
+ghost use Rattle.grid.specs.Channels.{planes, all_viewed};
 ghost use Rattle.refusal.specs.Verdicts.{kept_or};
 ghost use Rattle.frame.specs.declared.stages.Stage.TheVariants as stage;
 ghost use Rattle.frame.specs.Stages.{InStage};
@@ -19,7 +19,7 @@ ghost use Rattle.rebuild.specs.Answer.{rebuild_answer};
 
 use blocks::each_block;
 use frame::{Frame, Stage};
-use grid::{Grid, Raster, View, Xyb};
+use grid::{Grid, Raster, View, Xyb, views};
 use judge::{Checked, judge};
 use kernel::Kernel;
 use refusal::Refusal;
@@ -47,21 +47,23 @@ fn rebuild_channel<K: Kernel>(
 fn rebuild_channels<K: Kernel>(
     checked: Checked,
     kernel: &K,
-    samples: &mut Xyb<Grid<f32>>,
+    x: &mut Grid<f32>,
+    y: &mut Grid<f32>,
+    b: &mut Grid<f32>,
     scratch: &mut [f32],
 ) -> usize
-    requires x { Rebuildable checked.map (seen checked.lf.x) (lent samples.old.x) (length scratch.old) }
-    requires y { Rebuildable checked.map (seen checked.lf.y) (lent samples.old.y) (length scratch.old) }
-    requires b { Rebuildable checked.map (seen checked.lf.b) (lent samples.old.b) (length scratch.old) }
-    ensures x { Became samples.old.x samples.new.x (rebuilt (maps K.Kernel.fwd K.Kernel.inv) (seen checked.entry.map.grid) (seen checked.entry.lf.x) (lent samples.old.x)) }
-    ensures y { Became samples.old.y samples.new.y (rebuilt (maps K.Kernel.fwd K.Kernel.inv) (seen checked.entry.map.grid) (seen checked.entry.lf.y) (lent samples.old.y)) }
-    ensures b { Became samples.old.b samples.new.b (rebuilt (maps K.Kernel.fwd K.Kernel.inv) (seen checked.entry.map.grid) (seen checked.entry.lf.b) (lent samples.old.b)) }
+    requires x { Rebuildable checked.map (seen checked.lf.x) (lent x.old) (length scratch.old) }
+    requires y { Rebuildable checked.map (seen checked.lf.y) (lent y.old) (length scratch.old) }
+    requires b { Rebuildable checked.map (seen checked.lf.b) (lent b.old) (length scratch.old) }
+    ensures x { Became x.old x.new (rebuilt (maps K.Kernel.fwd K.Kernel.inv) (seen checked.entry.map.grid) (seen checked.entry.lf.x) (lent x.old)) }
+    ensures y { Became y.old y.new (rebuilt (maps K.Kernel.fwd K.Kernel.inv) (seen checked.entry.map.grid) (seen checked.entry.lf.y) (lent y.old)) }
+    ensures b { Became b.old b.new (rebuilt (maps K.Kernel.fwd K.Kernel.inv) (seen checked.entry.map.grid) (seen checked.entry.lf.b) (lent b.old)) }
     ensures count { result ≡ length (leads_of checked.entry.map) }
 {
     let Checked { map, lf } = checked;
-    let count = rebuild_channel(map, &mut samples.x, kernel, lf.x, scratch);
-    let _ = rebuild_channel(map, &mut samples.y, kernel, lf.y, scratch);
-    let _ = rebuild_channel(map, &mut samples.b, kernel, lf.b, scratch);
+    let count = rebuild_channel(map, x, kernel, lf.x, scratch);
+    let _ = rebuild_channel(map, y, kernel, lf.y, scratch);
+    let _ = rebuild_channel(map, b, kernel, lf.b, scratch);
     count
 }
 
@@ -76,23 +78,26 @@ fn answer_of(count: usize) -> u32
 
 /// Each varblock's samples become the kernel's image of them, with the corner made of the LF samples; all other
 /// samples stay. Answers the number of leads.
+// a grid for each channel and no `Xyb` of them: of a list that is lent in a struct of structs a host would know nothing afterwards
 pub fn rebuild<K: Kernel>(
     frame: &mut Frame,
     kernel: &K,
     map: View<Cell>,
     lf: Xyb<View<f32>>,
-    samples: &mut Xyb<Grid<f32>>,
+    x: &mut Grid<f32>,
+    y: &mut Grid<f32>,
+    b: &mut Grid<f32>,
     scratch: &mut [f32],
 ) -> Result<u32, Refusal>
-    ensures answer { result ≡ rebuild_answer frame.old.w8 frame.old.h8 frame.old.stage (viewed map.entry) (all_viewed lf.entry) (all_lent samples.old) (length scratch.old) }
+    ensures answer { result ≡ rebuild_answer frame.old.w8 frame.old.h8 frame.old.stage (viewed map.entry) (planes (viewed lf.entry.x) (viewed lf.entry.y) (viewed lf.entry.b)) (planes (lent x.old) (lent y.old) (lent b.old)) (length scratch.old) }
     ensures frame { InStage frame.old frame.new (kept_or result frame.old.stage stage.Rebuilt) }
-    ensures x { Became samples.old.x samples.new.x (kept_or result samples.old.x.list.now (rebuilt (maps K.Kernel.fwd K.Kernel.inv) (viewed map.entry) (viewed lf.entry.x) (lent samples.old.x))) }
-    ensures y { Became samples.old.y samples.new.y (kept_or result samples.old.y.list.now (rebuilt (maps K.Kernel.fwd K.Kernel.inv) (viewed map.entry) (viewed lf.entry.y) (lent samples.old.y))) }
-    ensures b { Became samples.old.b samples.new.b (kept_or result samples.old.b.list.now (rebuilt (maps K.Kernel.fwd K.Kernel.inv) (viewed map.entry) (viewed lf.entry.b) (lent samples.old.b))) }
+    ensures x { Became x.old x.new (kept_or result x.old.list.now (rebuilt (maps K.Kernel.fwd K.Kernel.inv) (viewed map.entry) (viewed lf.entry.x) (lent x.old))) }
+    ensures y { Became y.old y.new (kept_or result y.old.list.now (rebuilt (maps K.Kernel.fwd K.Kernel.inv) (viewed map.entry) (viewed lf.entry.y) (lent y.old))) }
+    ensures b { Became b.old b.new (kept_or result b.old.list.now (rebuilt (maps K.Kernel.fwd K.Kernel.inv) (viewed map.entry) (viewed lf.entry.b) (lent b.old))) }
     ensures scratch { is_err result ≡ true → scratch.new ≡ scratch.old }
 {
-    let checked = judge(frame, samples.views(), map, lf, scratch.len())?;
-    let count = rebuild_channels(checked, kernel, samples, scratch);
+    let checked = judge(frame, views(x, y, b), map, lf, scratch.len())?;
+    let count = rebuild_channels(checked, kernel, x, y, b, scratch);
     frame.lead_to(Stage::Rebuilt);
     Ok(answer_of(count))
 }

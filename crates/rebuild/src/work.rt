@@ -73,7 +73,8 @@ fn forward_corner<K: Kernel>(
     ensures { Drawn canvas.old canvas.new (if nat_lt 1 (block.size.width * block.size.height) then imaged canvas.old.shape (corner_of block) (K.Kernel.fwd block.size.width block.size.height) canvas.old.list.now else canvas.old.list.now) }
 {
     if block.size.width * block.size.height > 1 {
-        forward_patch(kernel, canvas, block.corner(), scratch);
+        let shape = canvas.shape;
+        forward_patch(kernel, canvas.list, shape, block.corner(), scratch);
     }
 }
 
@@ -84,7 +85,9 @@ fn inverse_block<K: Kernel>(kernel: &K, canvas: &mut Canvas<f32>, block: Block, 
     requires room { 512 ≤ length scratch.old }
     ensures { Drawn canvas.old canvas.new (imaged canvas.old.shape (area_of block) (K.Kernel.inv block.varblock.kind) canvas.old.list.now) }
 {
-    inverse_patch(kernel, block.varblock.kind, canvas, block.area(), scratch);
+    let shape = canvas.shape;
+    let kind = block.varblock.kind;
+    inverse_patch(kernel, kind, canvas.list, shape, block.area(), scratch);
 }
 
 /// rebuild in one channel.

@@ -1,6 +1,10 @@
-//! Examples of rebuild over 1 × 2 cells, run.
+//! Examples of rebuild over 1 × 2 cells, run, and two calls as a host makes them.
 
 #![tactic(auto)]
+
+mod host;
+
+pub use host::{forward_area, rebuild_lists};
 
 #[cfg(test)]
 mod tests {
@@ -64,7 +68,9 @@ mod tests {
         kernel: &K,
         t: Trial,
         frame: &mut Frame,
-        samples: &mut Xyb<Grid<f32>>,
+        x: &mut Grid<f32>,
+        y: &mut Grid<f32>,
+        b: &mut Grid<f32>,
     ) -> Result<u32, Refusal> {
         let map = View {
             list: &t.cells,
@@ -77,16 +83,20 @@ mod tests {
         });
         let mut scratch = [0.0f32; 512];
         let part = &mut scratch[..t.room.min(512)];
-        rebuild(frame, kernel, map, lf, samples, part)
+        rebuild(frame, kernel, map, lf, x, y, b, part)
     }
 
     // Over samples that are all zero.
     fn call<K: Kernel>(kernel: &K, t: Trial) -> Result<Outcome, Refusal> {
         let mut frame = opened(&mut [Cell::EMPTY; 2], Shape::dense(1, 2), t.stage)?;
         let (mut xs, mut ys, mut bs) = ([0.0f32; 128], [0.0f32; 128], [0.0f32; 128]);
-        let mut samples = grids(&mut xs, &mut ys, &mut bs, Shape::dense(8, 16));
-        samples.x.shape.width = t.width;
-        let answer = given(kernel, t, &mut frame, &mut samples);
+        let Xyb {
+            mut x,
+            mut y,
+            mut b,
+        } = grids(&mut xs, &mut ys, &mut bs, Shape::dense(8, 16));
+        x.shape.width = t.width;
+        let answer = given(kernel, t, &mut frame, &mut x, &mut y, &mut b);
         Ok(Outcome {
             answer: told(answer),
             stage: frame.stage().number(),

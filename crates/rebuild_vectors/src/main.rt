@@ -98,12 +98,19 @@ fn rebuild_over(
     let shape = padded(8 * w8, 8 * h8, plan.pad);
     let mut samples = picture(rt, source, shape, plan.least)?;
     let scratch = &mut [0.0; 512];
+    let Xyb {
+        mut x,
+        mut y,
+        mut b,
+    } = samples.grids();
     let answer = rebuild(
         frame,
         &Vardct,
         map,
         lf.views(),
-        &mut samples.grids(),
+        &mut x,
+        &mut y,
+        &mut b,
         scratch,
     );
     print_answer(rt, plan.seed, answer)?;

@@ -1,11 +1,13 @@
 //! One thing for each channel.
 
-ghost use Rattle.std.specs.Prelude.{◌≡◌};
+ghost use Rattle.std.specs.Prelude.{◌≡◌, IfOk, IfErr};
 
 use grid::{Grid, Shape, View, Xyb};
 
 /// The same for each channel.
-pub fn alike<T: Copy>(value: T) -> Xyb<T> {
+pub fn alike<T: Copy>(value: T) -> Xyb<T>
+    ensures { (result.x ≡ value) × (result.y ≡ value) × (result.b ≡ value) }
+{
     Xyb {
         x: value,
         y: value,
@@ -16,6 +18,8 @@ pub fn alike<T: Copy>(value: T) -> Xyb<T> {
 /// One for each channel, X first.
 pub fn three<T: Drop, F: FnMut() -> anyhow::Result<T> + Drop>(mut make: F) -> anyhow::Result<Xyb<T>>
     requires { (state : F) → F.pre state }
+    ensures made { IfOk result (λ v. (p q r : F) × F.step make (Ok v.x) p × F.step p (Ok v.y) q × F.step q (Ok v.b) r) }
+    ensures failed { IfErr result (λ e. (p q : F) × F.step p (Err e) q) }
 {
     Ok(Xyb {
         x: make()?,

@@ -1,6 +1,10 @@
 //! Lists in the shape of a grid, with a number beyond the width of each row that nothing writes.
 
-ghost use Rattle.std.specs.Prelude.{◌≡◌, ℕ, ◌+◌, ◌*◌, ◌%◌, ◌^◌, ◌<◌, ◌≤◌, IfOk, slice_index_or, vec_len};
+ghost use Rattle.std.specs.Prelude.{◌≡◌, ℕ, ◌+◌, ◌*◌, ◌%◌, ◌^◌, ◌<◌, ◌≤◌, IfOk, Decides, IsTrue, length, drop, slice_index_or, vec_len};
+ghost use Rattle.std.specs.List.{list_all};
+ghost use Rattle.std.specs.Float.{nan};
+ghost use Rattle.std.specs.Float.Ieee.{eq};
+ghost use Rattle.grid.specs.Index.{index, Lawful};
 
 use grid::Shape;
 use std::alloc::{AllocError, Global};
@@ -44,7 +48,10 @@ pub fn filled<T: Copy, F: FnMut() -> anyhow::Result<T> + Drop>(
 }
 
 /// The elements of a grid within the width, row by row.
-pub fn within<T: Copy>(alloc: Global, list: &[T], shape: Shape) -> Result<Vec<T>, AllocError> {
+pub fn within<T: Copy>(alloc: Global, list: &[T], shape: Shape) -> Result<Vec<T>, AllocError>
+    ensures len { IfOk result (λ v. Lawful shape (length list.now) → length list.now ≤ shape.height * shape.stride → vec_len v ≡ shape.height * shape.width) }
+    ensures elements { IfOk result (λ v. shape.width ≤ shape.stride → (x y : ℕ) → x < shape.width → index shape x y < length list.now → (d : T) → slice_index_or v.items (y * shape.width + x) d ≡ slice_index_or list.now (index shape x y) d) }
+{
     list.chunks(shape.stride.max(1))
         .flat_map(|row| row.iter().take(shape.width))
         .copied()
@@ -52,7 +59,16 @@ pub fn within<T: Copy>(alloc: Global, list: &[T], shape: Shape) -> Result<Vec<T>
 }
 
 /// Whether each number beyond the width is what stood there.
-pub fn keeps_padding(list: &[f32], shape: Shape) -> bool {
+pub fn keeps_padding(list: &[f32], shape: Shape) -> bool
+    ensures { 1 ≤ shape.stride → Decides result ((k : ℕ) → k < length list.now → shape.width ≤ k % shape.stride → IsTrue (eq (slice_index_or list.now k nan) PADDING)) }
+{
     list.chunks(shape.stride.max(1))
-        .all(|row| row.iter().skip(shape.width).all(|v| *v == PADDING))
+        .all(|row| ends_padded(row, shape.width))
+}
+
+/// Whether each number of a row from `width` on is what stood there.
+fn ends_padded(row: &[f32], width: usize) -> bool
+    ensures { result ≡ list_all (λ v. eq v PADDING) (drop width row.now) }
+{
+    row.iter().skip(width).all(|v| *v == PADDING)
 }

@@ -1,7 +1,8 @@
 //! Made-up numbers.
 
-ghost use Rattle.std.specs.Prelude.{◌≡◌, ◌/◌, ◌%◌, ◌<◌, ◌≤◌};
-ghost use Rattle.trials.specs.Numbers.{following};
+ghost use Rattle.std.specs.Prelude.{◌≡◌, ◌+◌, ◌/◌, ◌%◌, ◌^◌, ◌<◌, ◌≤◌, from_bits};
+ghost use Rattle.std.specs.Float.{binary32};
+ghost use Rattle.trials.specs.Numbers.{following, pattern};
 
 use std::num::f32_from_bits_with_nan;
 
@@ -34,7 +35,11 @@ impl Source {
     }
 
     /// A float of any sign and fraction, with one of 41 exponents from `least` on.
-    pub fn float(&mut self, least: u32) -> f32 {
+    #[tactic(auto, using(crate::proofs::Pattern::pattern_from_states))]
+    pub fn float(&mut self, least: u32) -> f32
+        ensures value { let a = following self.old.state in let b = following a in least ≤ 215 → result ≡ from_bits binary32 (pattern (a / 2 ^ 31) (a / 256 % 41 + least) (b / 2 ^ 9)) }
+        ensures kept { self.new.state ≡ following (following self.old.state) }
+    {
         let a = self.step();
         let b = self.step();
         let exponent = ((a >> 8) % 41).wrapping_add(least);

@@ -27,7 +27,7 @@ fn part(list: &[f32], start: usize, count: usize) -> Option<&[f32]>
 
 /// How many samples a block has.
 #[tactic(auto, using(crate::proofs::Blocks::all_samples))]
-fn samples(block: Block) -> usize
+pub fn samples(block: Block) -> usize
     ensures count { result ≡ 64 * (wide block.varblock.kind * high block.varblock.kind) }
     ensures few { result ≤ 65536 }
 {

@@ -3,7 +3,7 @@
 use super::Memory;
 use crate::command::Call;
 use crate::script::{Mistake, Words};
-use crate::sheet::{Sheet, grids, views};
+use crate::sheet::{Sheet, views};
 use grid::Xyb;
 use hf::{Quantiser, hf_dequantise};
 use hf_correlate::{Correlation as HfCorrelation, hf_correlate};
@@ -46,9 +46,12 @@ impl Memory {
     fn lf_dequantise<'a>(&mut self, words: &mut Words<'a>) -> Result<Answer, Mistake<'a>> {
         let scales = words.floats()?;
         words.end()?;
+        let Xyb { x, y, b } = &mut self.lf;
         Ok(lf_dequantise(
             &mut self.frame,
-            &mut grids(&mut self.lf),
+            &mut x.grid(),
+            &mut y.grid(),
+            &mut b.grid(),
             views(&self.numbers),
             scales,
         ))
@@ -73,9 +76,12 @@ impl Memory {
         let steps = words.floats()?;
         let room = words.number("number of scratch")?;
         words.end()?;
+        let Xyb { x, y, b } = &mut self.lf;
         Ok(lf_smooth(
             &mut self.frame,
-            &mut grids(&mut self.lf),
+            &mut x.grid(),
+            &mut y.grid(),
+            &mut b.grid(),
             steps,
             front(&mut self.scratch, room),
         ))
@@ -95,10 +101,13 @@ impl Memory {
             y: weights_of(&self.weights.y, &self.starts.y),
             b: weights_of(&self.weights.b, &self.starts.b),
         };
+        let Xyb { x, y, b } = &mut self.samples;
         Ok(hf_dequantise(
             &mut self.frame,
             self.map.view(),
-            &mut grids(&mut self.samples),
+            &mut x.grid(),
+            &mut y.grid(),
+            &mut b.grid(),
             views(&self.coefficients),
             weights,
             by,
@@ -138,12 +147,15 @@ impl Memory {
     }
 
     fn rebuild_by<K: Kernel>(&mut self, kernel: &K, room: usize) -> Answer {
+        let Xyb { x, y, b } = &mut self.samples;
         rebuild(
             &mut self.frame,
             kernel,
             self.map.view(),
             views(&self.lf),
-            &mut grids(&mut self.samples),
+            &mut x.grid(),
+            &mut y.grid(),
+            &mut b.grid(),
             front(&mut self.scratch, room),
         )
     }
