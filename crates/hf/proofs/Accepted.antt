@@ -1,12 +1,11 @@
 -- What HF dequantise answers, from what it checks, and what an accepted call has found.
-use Rattle.std.proofs.Common.{◌≡◌, ℕ, ◌+◌, ◌*◌, ◌≤◌, true, not, ◌&&◌, eqb, leb, length, ℤ, Ok, Result, sym, ap, ◌∙◌, subst, arith}
+use Rattle.std.proofs.Common.{◌≡◌, ℕ, ◌*◌, ◌≤◌, true, ◌&&◌, leb, length, ℤ, Ok, Result, sym, ap, ◌∙◌, subst, arith}
 use lib.Ieee.{Float}
 use Rattle.std.proofs.lemmas.Bool.{and_parts, and_from, leb-true, eqb-true}
 use Rattle.grid.specs.declared.xyb.Xyb.{Xyb}
 use Rattle.grid.specs.Plane.{Plane, fitting, seen}
 use Rattle.grid.specs.Channels.{all_fit}
 use Rattle.grid.proofs.Sized.{sized_true, wide_enough}
-use Rattle.kinds.specs.Kinds.{wide, high}
 use Rattle.kinds.proofs.Sizes.{carried_below, wide_is, high_is}
 use Rattle.refusal.specs.declared.Refusal.{Refusal}
 use Rattle.refusal.specs.declared.Reason.TheVariants as reason
@@ -24,10 +23,11 @@ use Rattle.blocks.proofs.Holders.{whole}
 use Rattle.channels.specs.Ranges.{range_checked}
 use Rattle.channels.specs.Checked.{judged, Judged}
 use Rattle.channels.proofs.Fitting.{fits_three, range_passed}
-use Rattle.weights.specs.Weights.{Table, start, weighs, placed_weighed}
+use Rattle.weights.specs.Weights.{Table, weighs, placed_weighed}
 use Rattle.weights.proofs.Weighed.{lead_weighs}
 use Rattle.hf_block.specs.declared.work.Scales.{Scales}
 use Rattle.hf_block.specs.Dequantised.{Ready, Writable}
+use Rattle.hf_block.proofs.Block.{enough}
 use Rattle.hf.specs.declared.quantiser.Quantiser.{Quantiser}
 use Rattle.hf.specs.Answer.{hf_dequantise_turn, starts_ok, starts_full, scale_ok, floats_judged, weights_judged, values_judged, hf_dequantise_answer, scales_x, scales_y, scales_b}
 
@@ -96,18 +96,21 @@ record Channel (w8 h8 : ℕ) (map : Map) (channel : ℕ) (p : Plane Float) (n : 
 
 module _ (w8 h8 : ℕ) (map : Map) (channel : ℕ) (p : Plane Float) (n : Plane ℤ) (t : Table) (by : Scales)
     (sized : fitting w8 h8 (seen map.grid) ≡ true) (small : by.global_scale ≤ 73728) (ch : Channel w8 h8 map channel p n t) where
-  -- each varblock can be dequantised
+  -- each varblock's kind has its weights
+  all_weigh : (v : Varblock) → OfMap map.grid.shape.width map.grid.shape.height (records map) v → weighs t v.kind ≡ true
+  all_weigh v of =
+      let m = sized_true w8 h8 map.grid.shape (length map.grid.list.now) sized in
+      lead_weighs w8 h8 (records map) channel t (wide_enough _ _ _ _ m) ch.weights v
+      (subst (λ w. OfMap w h8 (records map) v) m.width (subst (λ h. OfMap map.grid.shape.width h (records map) v) m.height of))
+
+  -- and it can be dequantised
   all_ready : (v : Varblock) → OfMap map.grid.shape.width map.grid.shape.height (records map) v → Ready n t by v
-  unfolding weighs
   all_ready v of =
       let m = sized_true w8 h8 map.grid.shape (length map.grid.list.now) sized in
       let z = sized_true _ _ _ _ ch.numbers in
       let k = whole map.grid.shape.width map.grid.shape.height (records map) map.lawful v of in
       let ww = wide_is v.kind k.size k.carried in
       let hh = high_is v.kind k.size k.carried in
-      let here = subst (λ w. OfMap w h8 (records map) v) m.width (subst (λ h. OfMap map.grid.shape.width h (records map) v) m.height of) in
-      let there = and_parts (not (eqb (start t v.kind) 4294967295)) (leb (start t v.kind + 64 * (wide v.kind * high v.kind)) (length t.list))
-      (lead_weighs w8 h8 (records map) channel t (wide_enough _ _ _ _ m) ch.weights v here) in
       record {
         lawful = z.lawful;
         across = omega (arith, k.across, z.width, m.width);
@@ -116,7 +119,7 @@ module _ (w8 h8 : ℕ) (map : Map) (channel : ℕ) (p : Plane Float) (n : Plane 
             range_passed (8 * w8) (8 * h8) channel n ch.numbers ch.range x y
             (omega (arith, i.across, z.width)) (omega (arith, i.down, z.height));
         starts = omega (arith, carried_below _ k.size k.carried, ch.starts);
-        weights = leb-true _ _ there.1;
+        weights = enough t v.kind (all_weigh v of);
         small = small;
         mul = k.most;
       }
@@ -133,11 +136,13 @@ module _ (w8 h8 : ℕ) (map : Map) (channel : ℕ) (p : Plane Float) (n : Plane 
         ready = all_ready;
       }
 
--- the three channels of an accepted call
+-- the three channels of an accepted call: each can be written, and has its weights for the kind of each varblock
 pub record Written (map : Map) (n : Xyb (Plane ℤ)) (t : Xyb Table) (by : Quantiser) (p : Xyb (Plane Float)) : Type 0 where
   pub x : Writable map n.x t.x (scales_x by) p.x
   pub y : Writable map n.y t.y (scales_y by) p.y
   pub b : Writable map n.b t.b (scales_b by) p.b
+  pub weighed : (v : Varblock) → OfMap map.grid.shape.width map.grid.shape.height (records map) v
+      → (weighs t.x v.kind ≡ true) × (weighs t.y v.kind ≡ true) × (weighs t.b v.kind ≡ true)
 
 -- as it is read off the very map that was checked
 written : (w8 h8 : ℕ) (st : Stage) (p : Xyb (Plane Float)) (map : Map) (n : Xyb (Plane ℤ)) (t : Xyb Table) (by : Quantiser)
@@ -163,13 +168,18 @@ written w8 h8 st p map n t by e =
     let g = fits_three (8 * w8) (8 * h8) n middle.1 in
     let scale = and_parts (leb 1 by.global_scale) (leb by.global_scale 73728) (demand_ok _ _ r0.0) in
     let small = leb-true _ _ scale.1 in
+    let x : Channel w8 h8 map 0 p.x n.x t.x = record { samples = f.0; numbers = g.0; range = r1.0; starts = eqb-true _ _ u.0; weights = w0.0 } in
+    let y : Channel w8 h8 map 1 p.y n.y t.y = record { samples = f.1; numbers = g.1; range = r2.0; starts = eqb-true _ _ u.1; weights = w1.0 } in
+    let b : Channel w8 h8 map 2 p.b n.b t.b = record { samples = f.2; numbers = g.2; range = r2.1; starts = eqb-true _ _ s.1; weights = w1.1 } in
     record {
-      x = writable w8 h8 map 0 p.x n.x t.x (scales_x by) inner.1 small
-          (record { samples = f.0; numbers = g.0; range = r1.0; starts = eqb-true _ _ u.0; weights = w0.0 });
-      y = writable w8 h8 map 1 p.y n.y t.y (scales_y by) inner.1 small
-          (record { samples = f.1; numbers = g.1; range = r2.0; starts = eqb-true _ _ u.1; weights = w1.0 });
-      b = writable w8 h8 map 2 p.b n.b t.b (scales_b by) inner.1 small
-          (record { samples = f.2; numbers = g.2; range = r2.1; starts = eqb-true _ _ s.1; weights = w1.1 });
+      x = writable w8 h8 map 0 p.x n.x t.x (scales_x by) inner.1 small x;
+      y = writable w8 h8 map 1 p.y n.y t.y (scales_y by) inner.1 small y;
+      b = writable w8 h8 map 2 p.b n.b t.b (scales_b by) inner.1 small b;
+      weighed = λ v of. (
+        all_weigh w8 h8 map 0 p.x n.x t.x (scales_x by) inner.1 small x v of,
+        all_weigh w8 h8 map 1 p.y n.y t.y (scales_y by) inner.1 small y v of,
+        all_weigh w8 h8 map 2 p.b n.b t.b (scales_b by) inner.1 small b v of,
+      );
     }
 
 pub accepted : (w8 h8 : ℕ) (st : Stage) (p q : Xyb (Plane Float)) (cells : Plane Cell) (map : Map) (n : Xyb (Plane ℤ)) (t : Xyb Table) (by : Quantiser)

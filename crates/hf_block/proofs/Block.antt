@@ -1,6 +1,7 @@
 -- One varblock's samples.
-use Rattle.std.proofs.Common.{◌≡◌, ℕ, ◌+◌, ◌-◌, ◌*◌, ◌<◌, List, length, get_or, take, drop, ℤ, sym, ap, ◌∙◌, mul_assoc, mul_comm, mul_left_comm, arith}
+use Rattle.std.proofs.Common.{◌≡◌, ℕ, ◌+◌, ◌-◌, ◌*◌, ◌<◌, ◌≤◌, true, List, length, get_or, take, drop, ℤ, sym, ap, ◌∙◌, mul_assoc, mul_comm, mul_left_comm, arith}
 use lib.Ieee.{Float, nan}
+use Rattle.std.proofs.lemmas.Bool.{and_parts, leb-true}
 use Rattle.std.proofs.lemmas.Nat.{mul-add-lt}
 use Rattle.std.proofs.lemmas.List.{get_or-take, get_or-drop, length-take-le, length-drop}
 use Rattle.grid.specs.declared.Shape.{Shape}
@@ -10,21 +11,37 @@ use Rattle.grid.specs.Painted.{painted, patch}
 use Rattle.grid.specs.Plane.{Plane, numeral}
 use Rattle.kinds.specs.Kinds.{wide, high}
 use Rattle.kinds.proofs.Sizes.{wide_is, high_is}
+use Rattle.blocks.specs.declared.leads.Varblock.{Varblock}
 use Rattle.blocks.specs.declared.block.Block.{Block}
 use Rattle.blocks.specs.Areas.{area_of}
 use Rattle.blocks.specs.Blocks.{one_block}
 use Rattle.blocks.proofs.Patches.{patch_alike}
-use Rattle.weights.specs.Weights.{Table, start, weight, weights_of}
+use Rattle.weights.specs.Weights.{Table, start, weight, weighs, weights_of}
 use Rattle.hf_block.specs.declared.work.Scales.{Scales}
 use Rattle.hf_block.specs.Sample.{dequantised, multiplier}
 use Rattle.hf_block.specs.Dequantised.{sample_at, dequantising, Ready}
 
-module _ (n : Plane ℤ) (t : Table) (by : Scales) (b : Block) (ready : Ready n t by b.varblock) where
+-- a kind that has its weights has them in the list
+pub enough : (t : Table) (kind : ℕ) → weighs t kind ≡ true → start t kind + 64 * (wide kind * high kind) ≤ length t.list
+unfolding weighs
+enough t kind e = leb-true _ _ (and_parts _ _ e).1
+
+-- the coefficients of a varblock and the weights of its kind are there
+pub record There (n : Plane ℤ) (t : Table) (v : Varblock) : Type 0 where
+  pub across : 8 * v.x + 8 * wide v.kind ≤ n.shape.width
+  pub down : 8 * v.y + 8 * high v.kind ≤ n.shape.height
+  pub weights : start t v.kind + 64 * (wide v.kind * high v.kind) ≤ length t.list
+
+-- as they are where it can be dequantised
+pub there : (n : Plane ℤ) (t : Table) (by : Scales) (v : Varblock) → Ready n t by v → There n t v
+there n t by v r = record { across = r.across; down = r.down; weights = r.weights }
+
+module _ (n : Plane ℤ) (t : Table) (by : Scales) (b : Block) (can : There n t b.varblock) where
   pub inside_block : (i j : ℕ) → i < 8 * b.size.width → j < 8 * b.size.height → Inside n.shape (8 * b.varblock.x + i) (8 * b.varblock.y + j)
   inside_block i j p q =
       let w = wide_is b.varblock.kind b.size b.carried in
       let h = high_is b.varblock.kind b.size b.carried in
-      record { across = omega (arith, ready.across); down = omega (arith, ready.down) }
+      record { across = omega (arith, can.across); down = omega (arith, can.down) }
 
   abbrev K : ℕ
   K = start t b.varblock.kind
@@ -52,7 +69,7 @@ module _ (n : Plane ℤ) (t : Table) (by : Scales) (b : Block) (ready : Ready n 
   weight_below i j p q =
       let d : K + M - K ≡ M = omega arith in
       let long : length (weights_of t b.varblock.kind) ≡ M =
-      ap (λ e. length (take e (drop K t.list))) d ∙ length-take-le M (drop K t.list) (omega (arith, length-drop K t.list, ready.weights)) in
+      ap (λ e. length (take e (drop K t.list))) d ∙ length-take-le M (drop K t.list) (omega (arith, length-drop K t.list, can.weights)) in
       omega (arith, long, index_below i j p q)
 
   -- a weight of the block
