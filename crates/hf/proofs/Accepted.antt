@@ -24,10 +24,9 @@ use Rattle.channels.specs.Ranges.{range_checked}
 use Rattle.channels.specs.Checked.{judged, Judged}
 use Rattle.channels.proofs.Fitting.{fits_three, range_passed}
 use Rattle.weights.specs.Weights.{Table, weighs, placed_weighed}
-use Rattle.weights.proofs.Weighed.{lead_weighs}
+use Rattle.weights.proofs.Weighed.{lead_weighs, enough}
 use Rattle.hf_block.specs.declared.work.Scales.{Scales}
 use Rattle.hf_block.specs.Dequantised.{Ready, Writable}
-use Rattle.hf_block.proofs.Block.{enough}
 use Rattle.hf.specs.declared.quantiser.Quantiser.{Quantiser}
 use Rattle.hf.specs.Answer.{hf_dequantise_turn, starts_ok, starts_full, scale_ok, floats_judged, weights_judged, values_judged, hf_dequantise_answer, scales_x, scales_y, scales_b}
 
@@ -94,16 +93,18 @@ record Channel (w8 h8 : ℕ) (map : Map) (channel : ℕ) (p : Plane Float) (n : 
   starts : length t.starts ≡ 27
   weights : placed_weighed w8 h8 (records map) channel t ≡ Ok tt
 
+-- each varblock's kind has its weights
+all_weigh : (w8 h8 : ℕ) (map : Map) (channel : ℕ) (p : Plane Float) (n : Plane ℤ) (t : Table) → fitting w8 h8 (seen map.grid) ≡ true
+    → Channel w8 h8 map channel p n t
+    → (v : Varblock) → OfMap map.grid.shape.width map.grid.shape.height (records map) v → weighs t v.kind ≡ true
+all_weigh w8 h8 map channel p n t sized ch v of =
+    let m = sized_true w8 h8 map.grid.shape (length map.grid.list.now) sized in
+    lead_weighs w8 h8 (records map) channel t (wide_enough _ _ _ _ m) ch.weights v
+    (subst (λ w. OfMap w h8 (records map) v) m.width (subst (λ h. OfMap map.grid.shape.width h (records map) v) m.height of))
+
 module _ (w8 h8 : ℕ) (map : Map) (channel : ℕ) (p : Plane Float) (n : Plane ℤ) (t : Table) (by : Scales)
     (sized : fitting w8 h8 (seen map.grid) ≡ true) (small : by.global_scale ≤ 73728) (ch : Channel w8 h8 map channel p n t) where
-  -- each varblock's kind has its weights
-  all_weigh : (v : Varblock) → OfMap map.grid.shape.width map.grid.shape.height (records map) v → weighs t v.kind ≡ true
-  all_weigh v of =
-      let m = sized_true w8 h8 map.grid.shape (length map.grid.list.now) sized in
-      lead_weighs w8 h8 (records map) channel t (wide_enough _ _ _ _ m) ch.weights v
-      (subst (λ w. OfMap w h8 (records map) v) m.width (subst (λ h. OfMap map.grid.shape.width h (records map) v) m.height of))
-
-  -- and it can be dequantised
+  -- each varblock can be dequantised
   all_ready : (v : Varblock) → OfMap map.grid.shape.width map.grid.shape.height (records map) v → Ready n t by v
   all_ready v of =
       let m = sized_true w8 h8 map.grid.shape (length map.grid.list.now) sized in
@@ -119,7 +120,7 @@ module _ (w8 h8 : ℕ) (map : Map) (channel : ℕ) (p : Plane Float) (n : Plane 
             range_passed (8 * w8) (8 * h8) channel n ch.numbers ch.range x y
             (omega (arith, i.across, z.width)) (omega (arith, i.down, z.height));
         starts = omega (arith, carried_below _ k.size k.carried, ch.starts);
-        weights = enough t v.kind (all_weigh v of);
+        weights = enough t v.kind (all_weigh w8 h8 map channel p n t sized ch v of);
         small = small;
         mul = k.most;
       }
@@ -176,9 +177,9 @@ written w8 h8 st p map n t by e =
       y = writable w8 h8 map 1 p.y n.y t.y (scales_y by) inner.1 small y;
       b = writable w8 h8 map 2 p.b n.b t.b (scales_b by) inner.1 small b;
       weighed = λ v of. (
-        all_weigh w8 h8 map 0 p.x n.x t.x (scales_x by) inner.1 small x v of,
-        all_weigh w8 h8 map 1 p.y n.y t.y (scales_y by) inner.1 small y v of,
-        all_weigh w8 h8 map 2 p.b n.b t.b (scales_b by) inner.1 small b v of,
+        all_weigh w8 h8 map 0 p.x n.x t.x inner.1 x v of,
+        all_weigh w8 h8 map 1 p.y n.y t.y inner.1 y v of,
+        all_weigh w8 h8 map 2 p.b n.b t.b inner.1 b v of,
       );
     }
 

@@ -1,7 +1,6 @@
 -- One varblock's samples.
-use Rattle.std.proofs.Common.{◌≡◌, ℕ, ◌+◌, ◌-◌, ◌*◌, ◌<◌, ◌≤◌, true, List, length, get_or, take, drop, ℤ, sym, ap, ◌∙◌, mul_assoc, mul_comm, mul_left_comm, arith}
+use Rattle.std.proofs.Common.{◌≡◌, ℕ, ◌+◌, ◌-◌, ◌*◌, ◌<◌, ◌≤◌, List, length, get_or, take, drop, ℤ, sym, ap, ◌∙◌, mul_assoc, mul_comm, mul_left_comm, arith}
 use lib.Ieee.{Float, nan}
-use Rattle.std.proofs.lemmas.Bool.{and_parts, leb-true}
 use Rattle.std.proofs.lemmas.Nat.{mul-add-lt}
 use Rattle.std.proofs.lemmas.List.{get_or-take, get_or-drop, length-take-le, length-drop}
 use Rattle.grid.specs.declared.Shape.{Shape}
@@ -16,27 +15,22 @@ use Rattle.blocks.specs.declared.block.Block.{Block}
 use Rattle.blocks.specs.Areas.{area_of}
 use Rattle.blocks.specs.Blocks.{one_block}
 use Rattle.blocks.proofs.Patches.{patch_alike}
-use Rattle.weights.specs.Weights.{Table, start, weight, weighs, weights_of}
+use Rattle.weights.specs.Weights.{Table, start, weight, weights_of}
 use Rattle.hf_block.specs.declared.work.Scales.{Scales}
 use Rattle.hf_block.specs.Sample.{dequantised, multiplier}
 use Rattle.hf_block.specs.Dequantised.{sample_at, dequantising, Ready}
 
--- a kind that has its weights has them in the list
-pub enough : (t : Table) (kind : ℕ) → weighs t kind ≡ true → start t kind + 64 * (wide kind * high kind) ≤ length t.list
-unfolding weighs
-enough t kind e = leb-true _ _ (and_parts _ _ e).1
-
 -- the coefficients of a varblock and the weights of its kind are there
-pub record There (n : Plane ℤ) (t : Table) (v : Varblock) : Type 0 where
+pub record Supplied (n : Plane ℤ) (t : Table) (v : Varblock) : Type 0 where
   pub across : 8 * v.x + 8 * wide v.kind ≤ n.shape.width
   pub down : 8 * v.y + 8 * high v.kind ≤ n.shape.height
   pub weights : start t v.kind + 64 * (wide v.kind * high v.kind) ≤ length t.list
 
 -- as they are where it can be dequantised
-pub there : (n : Plane ℤ) (t : Table) (by : Scales) (v : Varblock) → Ready n t by v → There n t v
-there n t by v r = record { across = r.across; down = r.down; weights = r.weights }
+pub supplied : (n : Plane ℤ) (t : Table) (by : Scales) (v : Varblock) → Ready n t by v → Supplied n t v
+supplied n t by v r = record { across = r.across; down = r.down; weights = r.weights }
 
-module _ (n : Plane ℤ) (t : Table) (by : Scales) (b : Block) (can : There n t b.varblock) where
+module _ (n : Plane ℤ) (t : Table) (by : Scales) (b : Block) (can : Supplied n t b.varblock) where
   pub inside_block : (i j : ℕ) → i < 8 * b.size.width → j < 8 * b.size.height → Inside n.shape (8 * b.varblock.x + i) (8 * b.varblock.y + j)
   inside_block i j p q =
       let w = wide_is b.varblock.kind b.size b.carried in

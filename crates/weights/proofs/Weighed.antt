@@ -3,6 +3,7 @@ use Rattle.std.proofs.Common.{◌≡◌, ℕ, zero, suc, ◌+◌, ◌*◌, ◌/�
 use Rattle.std.specs.List.{slice_range}
 use Rattle.std.specs.Option.{MatchOption}
 use lib.Ieee.{Float}
+use Rattle.std.proofs.lemmas.Bool.{and_parts, leb-true}
 use Rattle.kinds.specs.Kinds.{wide, high}
 use Rattle.refusal.specs.declared.Reason.TheVariants as reason
 use Rattle.refusal.specs.Verdicts.{Verdict, refusal, checked_from, checked_cells}
@@ -34,6 +35,11 @@ started t kind s e = go (start t kind == 4294967295) e
         → (start t kind ≡ s) × ((not b && leb (start t kind + 64 * (wide kind * high kind)) (length t.list)) ≡ leb (start t kind + 64 * (wide kind * high kind)) (length t.list))
     go true e = let bad : ◌≡◌ {A = ℕ} 0 1 = cc in absurd (omega arith)
     go false e = (cc, refl)
+
+-- a kind that has its weights has them in the list
+pub enough : (t : Table) (kind : ℕ) → weighs t kind ≡ true → start t kind + 64 * (wide kind * high kind) ≤ length t.list
+unfolding weighs
+enough t kind e = leb-true _ _ (and_parts _ _ e).1
 
 -- the part of the list that was found
 pub part_of : (t : Table) (kind s n : ℕ) (o : Option (Bor (List Float))) → start_of t kind ≡ Some s → n ≡ 64 * (wide kind * high kind)

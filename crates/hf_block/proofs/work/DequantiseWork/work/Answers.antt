@@ -3,7 +3,7 @@ use Rattle.grid.specs.declared.brush.Area.{Area}
 use Rattle.grid.specs.Index.{Inside}
 use Rattle.grid.specs.Plane.{viewed}
 use Rattle.weights.specs.Weights.{table}
-use Rattle.hf_block.proofs.Block.{there, inside_block, weight_below, block_done}
+use Rattle.hf_block.proofs.Block.{supplied, inside_block, weight_below, block_done}
 use Rattle.hf_block.proofs.work.DequantiseWork.work.Goals as goal
 
 pub paint-requires-clause-can : goal.paint-requires-clause-can
@@ -11,7 +11,7 @@ paint-requires-clause-can c =
     let n = viewed c.args.self.now.coefficients in
     let t = table c.args.self.now.weights in
     let by = c.args.self.now.scales in
-    let can = there n t by c.args.block.varblock c.requires.can in
+    let can = supplied n t by c.args.block.varblock c.requires.can in
     subst
     (λ (a : Area). (i j : ℕ) → i < a.width → j < a.height → Inside n.shape (a.x + i) (a.y + j) × (j * a.width + i < length c.from_start.result.now))
     (sym c.area-area.ensures)
@@ -28,5 +28,5 @@ returns c =
       list =
           c.paint.ensures.list
           ∙ block_done (viewed c.args.self.now.coefficients) (table c.args.self.now.weights) c.args.self.now.scales
-          c.args.block (there _ _ _ _ c.requires.can) c.args.canvas.now.shape _ _ _ _ c.args.canvas.now.lawful c.from_start.ensures c.area-area.ensures c.multiplier.ensures;
+          c.args.block (supplied _ _ _ _ c.requires.can) c.args.canvas.now.shape _ _ _ _ c.args.canvas.now.lawful c.from_start.ensures c.area-area.ensures c.multiplier.ensures;
     }
